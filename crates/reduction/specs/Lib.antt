@@ -1,0 +1,3 @@
+pub mod Factor
+pub mod Laws
+pub mod Answer
