@@ -7,26 +7,22 @@ use native.Mathlib.Nat.{add-zero, add-suc, suc-add, mul-le-mul, mul-le-mul-right
 use native.Mathlib.Omega.{arith}
 use lib.Dec.{leb}
 use Rattle.std.proofs.shelf.Tests.{cases-lt, cond-both, leb-true, leb-false}
-use Rattle.reduction.specs.Factor.{Smallest, first}
+use Rattle.reduction.specs.Factor.{RootAbove, Smallest, first}
 
 -- squares keep the order, and so do their products with one share
 pub square-mono : (j k share : ℕ) → j ≤ k → j * j * share ≤ k * k * share
 square-mono j k share h = mul-le-mul-right share (mul-le-mul h h)
 
--- one more than a number that is too small, where that is enough
-pub smallest-after : (bound share k : ℕ) → k * k * share < bound → bound ≤ (k + 1) * (k + 1) * share → Smallest bound share (k + 1)
-smallest-after bound share k low high =
+-- by the smallest number whose square is above the quotient
+pub smallest-by-root : (bound share r : ℕ) → 0 < bound → 0 < share → RootAbove ((bound - 1) / share) r → Smallest bound share r
+smallest-by-root bound share zero some part root = absurd (omega (arith, root .above))
+smallest-by-root bound share (suc k) some part root =
+    let low : k * k * share ≤ bound - 1 = le-div-iff-mul-le part .0 (root .below k (omega arith)) in
+    let high : bound - 1 < suc k * suc k * share = div-lt-iff-lt-mul part .0 (root .above) in
     record {
-      enough = high;
-      least = λ j h. ⊎-elim (λ lt. omega (arith, square-mono j k share (omega arith))) (λ ge. ge) (cases-lt j (k + 1));
+      enough = omega arith;
+      least = λ j h. ⊎-elim (λ lt. omega (arith, square-mono j k share (omega arith))) (λ ge. ge) (cases-lt j (suc k));
     }
-
--- the same from the bound part of a square root
-pub smallest-by-root : (bound share r : ℕ) → 0 < bound → 0 < share → r * r ≤ (bound - 1) / share → (bound - 1) / share < (r + 1) * (r + 1) → Smallest bound share (r + 1)
-smallest-by-root bound share r some part low high =
-    let a : r * r * share ≤ bound - 1 = le-div-iff-mul-le part .0 low in
-    let b : bound - 1 < (r + 1) * (r + 1) * share = div-lt-iff-lt-mul part .0 high in
-    smallest-after bound share r (omega arith) (omega arith)
 
 pub smallest-only : (bound share k l : ℕ) → Smallest bound share k → Smallest bound share l → k ≡ l
 smallest-only bound share k l p q = omega (arith, p .least l (q .enough), q .least k (p .enough))

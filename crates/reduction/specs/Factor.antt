@@ -6,6 +6,11 @@ use Prim.Native.Nat.{ℕ, zero, suc, _+_, _-_, _*_, _≤_, _<_, max}
 use lib.Dec.{leb}
 use Rattle.reduction.specs.declared.formula.Formula.{Formula}
 
+-- r is the smallest number whose square is above x: that of the number before it is not
+pub record RootAbove (x r : ℕ) : Type 0 where
+  pub above : x < r * r
+  pub below : (j : ℕ) → j + 1 ≡ r → j * j ≤ x
+
 -- k is the smallest number for which k × k × share is at least bound
 pub record Smallest (bound share k : ℕ) : Type 0 where
   pub enough : bound ≤ k * k * share

@@ -5,7 +5,7 @@ pub returns-in-0 : need.returns-in-0
 returns-in-0 c = answer-0 _ _ _ (c .in-0 .is)
 
 pub returns-in-1 : need.returns-in-1
-returns-in-1 c = answer-1 _ _ _ (c .reduced .result) (c .in-1 .is) (c .reduced .ensures)
+returns-in-1 c = answer-1 _ _ _ (c .class-1 .result) (c .in-1 .is) (c .class-1 .ensures)
 
 pub returns-in-2 : need.returns-in-2
-returns-in-2 c = answer-2 _ _ _ (c .reduced-in-2 .result) (c .in-2 .is) (c .reduced-in-2 .ensures)
+returns-in-2 c = answer-2 _ _ _ (c .class-2 .result) (c .in-2 .is) (c .class-2 .ensures)
