@@ -1,0 +1,9 @@
+pub mod Cuts
+pub mod Fields
+pub mod LineCount
+pub mod Numbers
+pub mod Readings
+pub mod Rows
+pub mod Steps
+pub mod Lengths
+pub mod Decimals8
