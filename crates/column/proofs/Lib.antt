@@ -1,0 +1,4 @@
+pub mod Bounds
+pub mod Tables
+pub mod Upto
+pub mod TwoStoreys
