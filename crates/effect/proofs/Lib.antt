@@ -1,0 +1,9 @@
+pub mod Arithmetic
+pub mod AtMost
+pub mod Comparisons
+pub mod Derived
+pub mod ForceLaws
+pub mod MomentLaws
+pub mod Rearranging
+pub mod Spelling
+pub mod Totals

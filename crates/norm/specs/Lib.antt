@@ -1,0 +1,4 @@
+pub mod Percentages
+pub mod Tables
+pub mod Roles
+pub mod Words
