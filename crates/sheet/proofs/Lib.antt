@@ -1,0 +1,4 @@
+pub mod Calls
+pub mod Causes
+pub mod Lists
+pub mod Stable

@@ -1,0 +1,3 @@
+pub mod Checks
+pub mod Held
+pub mod Ledger
