@@ -2,9 +2,11 @@
 use mathlib.Core.Path.{_≡_, sym, subst}
 use mathlib.Core.Bool.{true, false}
 use mathlib.Core.List.{List, [], _∷_}
-use Prim.Native.Nat.{ℕ, _<_}
+use mathlib.Core.Logic.{⊎-elim}
+use Prim.Native.Nat.{ℕ, _≤_, _<_}
 use native.Mathlib.Omega.{arith}
 use lib.ListN.{length, set}
+use Rattle.std.proofs.shelf.Tests.{cases-lt}
 use Rattle.std.specs.shelf.Lists.{All, At, removed}
 use Rattle.std.specs.Options.{Cases, isSome}
 use Rattle.std.specs.declared.option.Option.{Option}
@@ -31,6 +33,9 @@ found (Some x) P Q e h = (x, h)
 pub not-found : {X : Type 0} (o : Option X) (P : Type 0) (Q : X → Type 0) → isSome o ≡ false → Cases o P Q → P
 not-found None P Q e h = h
 not-found (Some x) P Q e h = absurd (let z : _≡_ {A = ℕ} 0 1 = cc in omega arith)
+
+pub not-le : {m n : ℕ} → (m ≤ n → ⊥) → n < m
+not-le {m} {n} h = ⊎-elim (λ lt. lt) (λ le. absurd (h le)) (cases-lt n m)
 
 module _ {E : Type 0} where
   -- the place of a record with the number n, in a slice of the records

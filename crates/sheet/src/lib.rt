@@ -2,6 +2,8 @@
 mod changes;
 mod checks;
 mod store;
+#[cfg(test)]
+mod tests;
 
 pub use changes::Change;
 pub use changes::ChangeClone;

@@ -4,6 +4,7 @@ use effect::Effect;
 use loads::Record;
 
 mod edits;
+mod places;
 
 // The records in the order of their entry, over memory that the caller reserved. At most 32 places of it are used.
 #[derive(Drop)]

@@ -50,10 +50,10 @@ impl<E: Effect> Sheet<E> {
         if position(self.records.as_slice(), number).is_some() {
             return Err(Refusal::NumberTaken);
         }
-        if self.records.len() >= self.places {
+        if self.is_full() {
             return Err(Refusal::SheetFull);
         }
-        self.records.push_reserved(Record { number, kind, load });
+        self.append(Record { number, kind, load });
         Ok(())
     }
 
@@ -66,7 +66,7 @@ impl<E: Effect> Sheet<E> {
         let Some(i) = position(self.records.as_slice(), number) else {
             return Err(Refusal::NumberMissing);
         };
-        self.records[i] = Record { number, kind, load };
+        self.put(i, Record { number, kind, load });
         Ok(())
     }
 
@@ -81,7 +81,7 @@ impl<E: Effect> Sheet<E> {
         let Some(i) = position(self.records.as_slice(), number) else {
             return Err(Refusal::NumberMissing);
         };
-        self.records.remove(i);
+        self.take_out(i);
         Ok(())
     }
 }

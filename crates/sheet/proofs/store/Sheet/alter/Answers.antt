@@ -1,8 +1,7 @@
 use mathlib.Core.Path.{refl, sym, ap, subst, _∙_}
 use Rattle.std.proofs.shelf.Results.{err-from-errBy}
 use Rattle.std.specs.declared.result.Result.the-variants.{Err}
-use Rattle.sheet.specs.Ledger.{Performs}
-use Rattle.sheet.specs.Ledger.{Missing}
+use Rattle.sheet.specs.Ledger.{Missing, Performs, recordOf}
 use Rattle.sheet.specs.Held.{held, placesOf}
 use Rattle.sheet.specs.declared.changes.Change.the-variants.{Alter}
 use Rattle.sheet.proofs.Calls.{there, altered, alter-due, alter-sound, alter-clear}
@@ -42,10 +41,11 @@ returns g c =
     let s = c .as-slice-2 .result .now in
     let same = c .as-slice-2 .ensures .value in
     let at = c .in-Some .ensures tt in
+    let new = altered n s b same (c .in-Some .i) at (recordOf n (c .in-Continue-kind .kind) (c .args .load)) in
     record {
       ledger = (
         alter-clear (g .E·Effect .means) n (c .args .letter) (c .args .load) b (c .as-slice .result .now) (c .as-slice .ensures .value) (placesOf (c .args .self .now)) (c .in-Continue-kind .ensures tt .1) (there n s b same (c .in-Some .i) at),
-        (c .in-Continue-kind .kind, c .in-Continue-kind .ensures tt .0, altered n s b same (c .in-Some .i) at _),
+        (c .in-Continue-kind .kind, c .in-Continue-kind .ensures tt .0, (new .0, new .1, new .2, new .3, new .4, c .put .ensures .records ∙ new .5)),
       );
-      places = refl;
+      places = c .put .ensures .places;
     }

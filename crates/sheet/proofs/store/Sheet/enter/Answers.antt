@@ -1,12 +1,12 @@
 use mathlib.Core.Path.{refl, sym, ap, subst, _∙_}
-use native.Mathlib.Omega.{arith}
 use Rattle.std.proofs.shelf.Results.{err-from-errBy}
+use Rattle.std.proofs.shelf.Ways.{not-from-decides}
 use Rattle.std.specs.declared.result.Result.the-variants.{Err}
 use Rattle.sheet.specs.Ledger.{Performs}
 use Rattle.sheet.specs.Ledger.{Missing}
 use Rattle.sheet.specs.Held.{held, placesOf}
 use Rattle.sheet.specs.declared.changes.Change.the-variants.{Enter}
-use Rattle.sheet.proofs.Calls.{found, not-found, there, enter-due, enter-sound, enter-free, enter-clear}
+use Rattle.sheet.proofs.Calls.{found, not-found, not-le, there, enter-due, enter-sound, enter-free, enter-clear}
 use Rattle.sheet.proofs.store.Sheet.enter.Needs as need
 
 pub returns-in-Break-kind : need.returns-in-Break-kind
@@ -37,15 +37,15 @@ returns-then-is-some g c =
       places = refl;
     }
 
-pub returns-then-len-self : need.returns-then-len-self
-returns-then-len-self g c =
+pub returns-then-is-full : need.returns-then-is-full
+returns-then-is-full g c =
     let n = c .args .number in
     let b = held (c .args .self .now) in
     let missing : Missing n b = subst (Missing n) (c .as-slice-2 .ensures .value) (not-found (c .position .result) _ _ (sym (c .if-is-some .ensures tt)) (c .position .ensures)) in
     record {
       ledger = (
         (
-          omega (arith, c .args .self .now .records .ok .0),
+          c .is-full .ensures .0 (c .if-is-full .taken),
           enter-free (g .E·Effect .means) n (c .args .letter) (c .args .load) b (c .as-slice .result .now) (c .as-slice .ensures .value) (placesOf (c .args .self .now)) (c .in-Continue-kind .ensures tt .1) missing,
         ),
         refl,
@@ -60,8 +60,9 @@ returns g c =
     let missing : Missing n b = subst (Missing n) (c .as-slice-2 .ensures .value) (not-found (c .position .result) _ _ (sym (c .if-is-some .ensures tt)) (c .position .ensures)) in
     record {
       ledger = (
-        enter-clear (g .E·Effect .means) n (c .args .letter) (c .args .load) b (c .as-slice .result .now) (c .as-slice .ensures .value) (placesOf (c .args .self .now)) (c .in-Continue-kind .ensures tt .1) missing (omega (arith, c .args .self .now .records .ok .0)),
-        (c .in-Continue-kind .kind, c .in-Continue-kind .ensures tt .0, c .push-reserved .ensures .items),
+        enter-clear (g .E·Effect .means) n (c .args .letter) (c .args .load) b (c .as-slice .result .now) (c .as-slice .ensures .value) (placesOf (c .args .self .now)) (c .in-Continue-kind .ensures tt .1) missing
+            (not-le (not-from-decides _ (c .is-full .ensures) (c .if-is-full .left))),
+        (c .in-Continue-kind .kind, c .in-Continue-kind .ensures tt .0, c .append .ensures .records),
       );
-      places = refl;
+      places = c .append .ensures .places;
     }

@@ -15,7 +15,7 @@ returns g c =
     record {
       ledger = (
         strike-clear (g .E·Effect .means) (placesOf (c .args .self .now)) n b number (there n s b same (c .in-Some .i) at),
-        (out .0, out .1, out .2, out .3, out .4, c .remove .ensures .items ∙ out .5),
+        (out .0, out .1, out .2, out .3, out .4, c .take-out .ensures .records ∙ out .5),
       );
-      places = refl;
+      places = c .take-out .ensures .places;
     }
