@@ -11,7 +11,7 @@ use Rattle.history.specs.declared.logs.Turn.{Turn}
 use Rattle.history.specs.declared.outcomes.Outcome.{Outcome}
 
 module _ {E : Type 0} where
-  abbrev pub turnsOf : Log E → List Turn
+  abbrev pub turnsOf : Log E → List (Turn E)
   turnsOf l = vec-items (l .turns)
 
   abbrev pub pagesOf : Log E → List (Record E)
@@ -44,7 +44,7 @@ module _ {E : Type 0} where
     pub short : r ≡ false → Room l → ⊥
 
   -- m is l with a turn more: its outcome, and the records b
-  pub record Noted (l : Log E) (out : Outcome) (b : List (Record E)) (m : Log E) : Type 0 where
+  pub record Noted (l : Log E) (out : Outcome E) (b : List (Record E)) (m : Log E) : Type 0 where
     pub opened : m .opened ≡ l .opened
     pub turns : turnsOf m ≡ turnsOf l ++ record { outcome = out; held = length b } ∷ []
     pub pages : pagesOf m ≡ pagesOf l ++ b

@@ -1,12 +1,13 @@
 // The log of a run.
 use crate::outcomes::Outcome;
+use crate::outcomes::OutcomeClone;
 use effect::Effect;
 use loads::Record;
 
 // What a call came to, and how many records the sheet held after it.
 #[derive(Clone, Copy)]
-pub struct Turn {
-    pub outcome: Outcome,
+pub struct Turn<E> {
+    pub outcome: Outcome<E>,
     pub held: usize,
 }
 
@@ -14,6 +15,6 @@ pub struct Turn {
 #[derive(Drop)]
 pub struct Log<E: Effect> {
     pub opened: usize,
-    pub turns: Vec<Turn>,
+    pub turns: Vec<Turn<E>>,
     pub pages: Vec<Record<E>>,
 }

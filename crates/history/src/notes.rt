@@ -26,7 +26,7 @@ impl<E: Effect> Log<E> {
     }
 
     // Notes a turn, for which there is room.
-    pub(crate) fn note(&mut self, outcome: Outcome, records: &[Record<E>])
+    pub(crate) fn note(&mut self, outcome: Outcome<E>, records: &[Record<E>])
         requires room { ⌜ Room (now self) ⌝ }
         requires few { ⌜ length (now records) ≤ 32 ⌝ }
         ensures { λ _. ⌜ Noted (now (self .entry)) outcome (now (records .entry)) (now (self .exit)) ⌝ }

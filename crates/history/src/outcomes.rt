@@ -1,24 +1,31 @@
 // What a call came to.
 ghost use mathlib.Core.Path.{_≡_};
-ghost use Rattle.history.specs.Outcomes.{outcomeOf};
+ghost use Rattle.history.specs.Outcomes.{outcomeOf, answerOf};
+use combination::Answer;
+use combination::AnswerClone;
 use refusals::Refusal;
-use refusals::RefusalDebug;
-use refusals::RefusalEq;
-use refusals::RefusalPartialEq;
 
-#[derive(Clone, Copy, PartialEq, Eq, Debug)]
-pub enum Outcome {
+#[derive(Clone, Copy)]
+pub enum Outcome<E> {
     Done,
     Refused(Refusal),
+    Answered(Answer<E>),
 }
 
-impl Outcome {
-    pub(crate) fn of_result(result: Result<(), Refusal>) -> Outcome
-        ensures { λ r. ⌜ r ≡ outcomeOf result ⌝ }
-    {
-        match result {
-            Ok(()) => Outcome::Done,
-            Err(refusal) => Outcome::Refused(refusal),
-        }
+pub(crate) fn outcome_of<E>(result: Result<(), Refusal>) -> Outcome<E>
+    ensures { λ r. ⌜ r ≡ outcomeOf result ⌝ }
+{
+    match result {
+        Ok(()) => Outcome::Done,
+        Err(refusal) => Outcome::Refused(refusal),
+    }
+}
+
+pub(crate) fn answer_of<E>(result: Result<Answer<E>, Refusal>) -> Outcome<E>
+    ensures { λ r. ⌜ r ≡ answerOf result ⌝ }
+{
+    match result {
+        Ok(answer) => Outcome::Answered(answer),
+        Err(refusal) => Outcome::Refused(refusal),
     }
 }

@@ -1,63 +1,52 @@
-// One call on a sheet, and a whole run of calls.
+// One call on a sheet.
 ghost use mathlib.Core.Path.{_≡_};
-ghost use Prim.Native.Nat.{min};
-ghost use Rattle.std.specs.Of.Vec.{vec-cap};
+ghost use Rattle.norm.specs.Percentages.{Percentages};
 ghost use Rattle.sheet.specs.Held.{held, placesOf};
-ghost use Rattle.history.specs.History.{Step};
-ghost use Rattle.history.specs.Law.{Performed, Replayed};
-use crate::logs::Log;
+ghost use Rattle.sheet.specs.Ledger.{Performs};
+ghost use Rattle.history.specs.History.{both};
+ghost use Rattle.history.specs.Law.{Performed};
+ghost use Rattle.history.specs.Steps.{Stepped};
+use crate::asking::ask;
+use crate::calls::Call;
 use crate::outcomes::Outcome;
+use crate::outcomes::outcome_of;
 use effect::Effect;
-use loads::Record;
+use norm::Norm;
+use norm::SpecialNorm;
+use refusals::Refusal;
 use sheet::Change;
 use sheet::Sheet;
 
-fn step<E: Effect>(sheet: &mut Sheet<E>, call: Change<E>) -> Outcome
-    ensures step { λ r. ⌜ Step means (placesOf (now (sheet .entry))) (held (now (sheet .entry))) call r (held (now (sheet .exit))) ⌝ }
-    ensures places { λ r. ⌜ placesOf (now (sheet .exit)) ≡ placesOf (now (sheet .entry)) ⌝ }
+// A call that changes the sheet.
+pub(crate) fn change<E: Effect>(sheet: &mut Sheet<E>, call: Change<E>) -> Result<(), Refusal>
+    ensures ledger { λ r. ⌜ Performs means (placesOf (now (sheet .entry))) (held (now (sheet .entry))) call r (held (now (sheet .exit))) ⌝ }
+    ensures places { λ _. ⌜ placesOf (now (sheet .exit)) ≡ placesOf (now (sheet .entry)) ⌝ }
 {
     match call {
-        Change::Enter(number, letter, load) => Outcome::of_result(sheet.enter(
-            number,
-            letter,
-            load,
-        )),
-        Change::Alter(number, letter, load) => Outcome::of_result(sheet.alter(
-            number,
-            letter,
-            load,
-        )),
-        Change::Strike(number) => Outcome::of_result(sheet.strike(number)),
+        Change::Enter(number, letter, load) => sheet.enter(number, letter, load),
+        Change::Alter(number, letter, load) => sheet.alter(number, letter, load),
+        Change::Strike(number) => sheet.strike(number),
     }
 }
 
-// One call. Whatever history the sheet has, it then has that history and this call.
-pub fn perform<E: Effect>(sheet: &mut Sheet<E>, call: Change<E>) -> Outcome
-    ensures law { λ r. ⌜ Performed means (placesOf (now (sheet .entry))) (held (now (sheet .entry))) call r (held (now (sheet .exit))) ⌝ }
-    ensures places { λ r. ⌜ placesOf (now (sheet .exit)) ≡ placesOf (now (sheet .entry)) ⌝ }
+fn step<E: Effect, M: SpecialNorm>(norm: &M, sheet: &mut Sheet<E>, call: Call<E>) -> Outcome<E>
+    ensures stepped { λ r. ⌜ Stepped (E·Effect .means) (both (M·Norm .percentages (now (norm .entry))) (M·SpecialNorm .special (now (norm .entry)))) (placesOf (now (sheet .entry))) (held (now (sheet .entry))) call r (held (now (sheet .exit))) ⌝ }
+    ensures places { λ _. ⌜ placesOf (now (sheet .exit)) ≡ placesOf (now (sheet .entry)) ⌝ }
 {
-    step(sheet, call)
+    match call {
+        Call::Change(call) => outcome_of(change(sheet, call)),
+        Call::Ask(question) => ask(norm, sheet, question),
+    }
 }
 
-// Opens a blank sheet over the memory, and makes the calls one after the other. Each is noted in the log, which begins anew;
-// where there is no memory for one more turn, the calls that are left are not made.
-pub fn replay<E: Effect>(
-    memory: Vec<Record<E>>,
-    places: usize,
-    calls: &[Change<E>],
-    log: &mut Log<E>,
-) -> Sheet<E>
-    ensures law { λ r. ⌜ Replayed means (placesOf r) (now (calls .entry)) (now (log .entry)) (now (log .exit)) (held r) ⌝ }
-    ensures places { λ r. ⌜ placesOf r ≡ min (min places (vec-cap memory)) 32 ⌝ }
+// One call. Whatever history the sheet has, it then has that history and this call, and the law holds of it.
+pub fn perform<E: Effect, M: SpecialNorm>(
+    norm: &M,
+    sheet: &mut Sheet<E>,
+    call: Call<E>,
+) -> Outcome<E>
+    ensures law { λ r. ⌜ Performed (E·Effect .means) (both (M·Norm .percentages (now (norm .entry))) (M·SpecialNorm .special (now (norm .entry)))) (placesOf (now (sheet .entry))) (held (now (sheet .entry))) call r (held (now (sheet .exit))) ⌝ }
+    ensures places { λ _. ⌜ placesOf (now (sheet .exit)) ≡ placesOf (now (sheet .entry)) ⌝ }
 {
-    let mut sheet = Sheet::open(memory, places);
-    log.begin(sheet.records());
-    for call in calls {
-        if !log.make_room() {
-            return sheet;
-        }
-        let outcome = perform(&mut sheet, *call);
-        log.note(outcome, sheet.records());
-    }
-    sheet
+    step(norm, sheet, call)
 }

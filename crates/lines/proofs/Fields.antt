@@ -6,6 +6,7 @@ use Prim.Native.Nat.{ℕ, _+_}
 use native.Mathlib.Omega.{arith}
 use borrow.Author.Tests.{clash}
 use lib.Dec.{eqb}
+use lib.ListN.{length}
 use Rattle.std.specs.Reads.{Digits}
 use Rattle.std.specs.Written.{decimal}
 use Rattle.std.proofs.shelf.Numerals.{digit-from-value}
@@ -39,6 +40,26 @@ field-ends (b ∷ bs) r e = go (separates b) refl e (field-ends bs r)
     go : (t : Bool) → separates b ≡ t → b ∷ bs ≡ cond t [] (b ∷ field bs) ++ r → (bs ≡ field bs ++ r → Ends r) → Ends r
     go true p e h = subst Ends e p
     go false p e h = h (cc)
+
+pub field-field : (s : List ℕ) → field (field s) ≡ field s
+field-field [] = refl
+field-field (b ∷ bs) = go (separates b) refl (field-field bs)
+  where
+    go : (t : Bool) → separates b ≡ t → field (field bs) ≡ field bs → field (cond t [] (b ∷ field bs)) ≡ cond t [] (b ∷ field bs)
+    go true e h = refl
+    go false e h = ap (λ t. cond t [] (b ∷ field (field bs))) e ∙ ap (λ l. b ∷ l) h
+
+pub solid-field : (x : List ℕ) → field x ≡ x → Solid x
+solid-field [] e = tt
+solid-field (b ∷ x) e = go (separates b) refl e (solid-field x)
+  where
+    go : (t : Bool) → separates b ≡ t → cond t [] (b ∷ field x) ≡ b ∷ x → (field x ≡ x → Solid x) → Solid (b ∷ x)
+    go true p e h = absurd (omega (arith, ap length e))
+    go false p e h = (p, h (cc))
+
+pub whole-field : (x : List ℕ) → Solid x → field x ≡ x
+whole-field [] s = refl
+whole-field (b ∷ x) s = ap (λ t. cond t [] (b ∷ field x)) (s .0) ∙ ap (λ l. b ∷ l) (whole-field x (s .1))
 
 pub newlines-solid : (x : List ℕ) → Solid x → newlines x ≡ 0
 newlines-solid [] s = refl

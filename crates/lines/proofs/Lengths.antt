@@ -8,7 +8,7 @@ use Rattle.std.specs.Written.{decimal}
 use Rattle.lines.specs.Reading.{spaced, fieldsOf, numbersLine}
 
 module _ {A : Type 0} (written : A → List ℕ) where
-  spaced-longer : (xs : List A) (t : List ℕ) → length t ≤ length (spaced written xs t)
+  pub spaced-longer : (xs : List A) (t : List ℕ) → length t ≤ length (spaced written xs t)
   spaced-longer [] t = omega arith
   spaced-longer (x ∷ xs) t = simp length-append (omega (arith, spaced-longer xs t))
 

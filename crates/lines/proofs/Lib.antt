@@ -7,3 +7,8 @@ pub mod Rows
 pub mod Steps
 pub mod Lengths
 pub mod Decimals8
+pub mod Integers
+pub mod Sequences
+pub mod Spellings
+pub mod Lasts
+pub mod SpacedRows

@@ -14,12 +14,12 @@ use Rattle.std.specs.declared.option.Option.the-variants.{Some, None}
 use Rattle.std.proofs.shelf.Numerals.{digit-from-value}
 use Rattle.std.proofs.shelf.Decimals.{same-from-decimal}
 use Rattle.lines.specs.Lines.{field, startsBlank, gap, lexeme}
-use Rattle.lines.specs.Lexing.{rest, SameText, Sort, word, number, lineEnd, textSort, Other, Taken}
+use Rattle.lines.specs.Lexing.{rest, SameText, Sort, word, number, lineEnd, textSort, Other, Taken, TakenField, NoField}
 use Rattle.lines.specs.Numeral.{Short, Spelt}
-use Rattle.lines.specs.Reading.{Ends, blankIf, led, Reads}
+use Rattle.lines.specs.Reading.{Ends, FieldText, blankIf, itself, led, Reads}
 use Rattle.lines.specs.declared.token.Tokens.{Tokens}
 use Rattle.lines.proofs.Numbers.{short-text}
-use Rattle.lines.proofs.Fields.{Solid, field-solid, field-ends, solid-decimal}
+use Rattle.lines.proofs.Fields.{Solid, field-solid, field-ends, field-field, one-way, solid-decimal, solid-field}
 
 -- a test whether two flags differ, as the checker reads it
 pub flags-differ : (a b : Bool) → not (Bool·beq a b) ≡ true → a ≡ b → ⊥
@@ -136,3 +136,52 @@ module _ {A : Type 0} {k : Sort} {valid : A → Type 0} {written : A → List �
   -- a blank stands at the cursor where none is asked for, or none where one is
   pub reads-apart : (startsBlank (rest s) ≡ b → ⊥) → SameText s u → Reads valid (led b written) Ends s None u
   reads-apart apart text = ((λ a t ok ends e. apart (ap startsBlank e ∙ starts-led b (written a) t (tokenly .solid a ok) (tokenly .some a ok))), text)
+
+-- a field after one blank or right here, from the other side of an equation
+pub led-one-way : (b : Bool) (x y t u : List ℕ) → Solid x → Solid y → Ends t → Ends u → blankIf b (x ++ t) ≡ blankIf b (y ++ u) → (x ≡ y) × (t ≡ u)
+led-one-way b x y t u p q e f same = one-way x y t u p q e f (led-cancel b x t y u same)
+
+-- a field's text as it stands
+is-field : (k : Sort) → (k ≡ lineEnd → ⊥) → IsField k
+is-field word h = tt
+is-field number h = tt
+is-field lineEnd h = h refl
+
+solid-sort : (x : List ℕ) → 0 < length x → Solid x → textSort x ≡ lineEnd → ⊥
+solid-sort [] some solid = absurd (omega arith)
+solid-sort (c ∷ x) some solid = go (eqb c 32) (eqb c 10) _ (solid .0)
+  where
+    go : (p q r : Bool) → (p || q) ≡ false → cond q lineEnd (cond r number word) ≡ lineEnd → ⊥
+    go true q r e h = clash (sym e)
+    go false true r e h = clash (sym e)
+    go false false true e h = subst IsField h tt
+    go false false false e h = subst IsField h tt
+
+module _ (b : Bool) (s u : Tokens) where
+  pub reads-text : (x : List ℕ) → startsBlank (rest s) ≡ b → TakenField s x u → 0 < length x → Reads FieldText (led b itself) Ends s (Some x) u
+  reads-text x lead taken some =
+      let cut = gap-led b (rest s) x (rest u) lead (taken .split) in
+      let is = lexeme-field b (textSort x) (rest s) x (rest u) (is-field (textSort x) (taken .sorted)) lead refl (taken .is) cut in
+      ((some, ap field is ∙ field-field (x ++ rest u) ∙ sym is), cut, field-ends (x ++ rest u) (rest u) (ap (λ l. l ++ rest u) is), taken .text)
+
+  -- an empty one
+  pub reads-empty : (x : List ℕ) → TakenField s x u → length x ≡ 0 → Reads FieldText (led b itself) Ends s None u
+  reads-empty x taken none = (
+    (λ a t ok ends e.
+        let is = taken .is ∙ ap lexeme e ∙ lexeme-led b a t (solid-field a (ok .1)) (ok .0) ends in
+        let some = ok .0 in
+        omega (arith, ap length is)),
+    taken .text,
+  )
+
+  pub reads-no-field : NoField s u → Reads FieldText (led b itself) Ends s None u
+  reads-no-field none = (
+    (λ a t ok ends e.
+        let solid = solid-field a (ok .1) in
+        let is = ap lexeme e ∙ lexeme-led b a t solid (ok .0) ends in
+        solid-sort a (ok .0) solid (sym (ap textSort is) ∙ none .0 (subst (λ l. 0 < length l) (sym e) (led-some b a t (ok .0))))),
+    none .1,
+  )
+
+  pub reads-text-apart : (startsBlank (rest s) ≡ b → ⊥) → SameText s u → Reads FieldText (led b itself) Ends s None u
+  reads-text-apart apart text = ((λ a t ok ends e. apart (ap startsBlank e ∙ starts-led b a t (solid-field a (ok .1)) (ok .0))), text)

@@ -92,3 +92,15 @@ pub record Taken (k : Sort) (s : Tokens) (x : List ℕ) (u : Tokens) : Type 0 wh
   pub is : x ≡ lexeme (rest s)
   pub split : rest s ≡ gap (rest s) ++ (x ++ rest u)
   pub text : SameText s u
+
+-- x is the text of a field that s went on with, an empty one too, and u stands after it
+pub record TakenField (s : Tokens) (x : List ℕ) (u : Tokens) : Type 0 where
+  pub some : 0 < length (rest s)
+  pub sorted : textSort x ≡ lineEnd → ⊥
+  pub is : x ≡ lexeme (rest s)
+  pub split : rest s ≡ gap (rest s) ++ (x ++ rest u)
+  pub text : SameText s u
+
+-- no field comes next
+abbrev pub NoField : Tokens → Tokens → Type 0
+NoField s u = (0 < length (rest s) → textSort (lexeme (rest s)) ≡ lineEnd) × SameText s u

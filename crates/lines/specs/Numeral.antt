@@ -2,6 +2,7 @@
 use mathlib.Core.Path.{_≡_}
 use mathlib.Core.List.{List}
 use Prim.Native.Nat.{ℕ, _^_, _≤_, _<_}
+use lib.IntN.{ℤ, natAbs}
 use lib.ListN.{length, getD}
 use Rattle.std.specs.Reads.{Digits, value}
 use Rattle.std.specs.declared.option.Option.{Option}
@@ -29,6 +30,9 @@ IsValue text None = Digits 10 text → ⊥
 -- of at most ten digits
 abbrev pub Short : ℕ → Type 0
 Short n = n < 10 ^ 10
+
+abbrev pub ShortZ : ℤ → Type 0
+ShortZ z = Short (natAbs z)
 
 -- text is what is written of a valid value, which is the answer; or of none
 abbrev pub Spelt : {A : Type 0} → (A → Type 0) → (A → List ℕ) → List ℕ → Option A → Type 0

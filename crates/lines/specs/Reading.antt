@@ -2,14 +2,14 @@
 use mathlib.Core.Path.{_≡_}
 use mathlib.Core.Bool.{Bool, true, false}
 use mathlib.Core.List.{List, [], _∷_, _++_}
-use Prim.Native.Nat.{ℕ, _+_}
+use Prim.Native.Nat.{ℕ, _+_, _<_}
 use lib.ListN.{length}
 use Rattle.std.specs.Written.{decimal}
 use Rattle.std.specs.shelf.Lists.{All}
 use Rattle.std.specs.declared.option.Option.{Option}
 use Rattle.std.specs.declared.option.Option.the-variants.{Some, None}
 use Rattle.lines.specs.Lexing.{rest, lineAt, SameText}
-use Rattle.lines.specs.Lines.{separates}
+use Rattle.lines.specs.Lines.{separates, field}
 use Rattle.lines.specs.declared.token.Tokens.{Tokens}
 
 -- a field ends here
@@ -75,3 +75,24 @@ pub record ReadsLine {A : Type 0} (valid : A → Type 0) (written : A → List �
 -- n valid values
 abbrev pub Row : {A : Type 0} → (A → Type 0) → ℕ → List A → Type 0
 Row valid n xs = (length xs ≡ n) × All valid xs
+
+-- a field that is not empty is the whole of x
+abbrev pub FieldText : List ℕ → Type 0
+FieldText x = (0 < length x) × (field x ≡ x)
+
+-- a text is written as it is
+abbrev pub itself : List ℕ → List ℕ
+itself x = x
+
+-- the last of n fields ends here; where there is none, anything may stand here
+abbrev pub EndsAfter : ℕ → List ℕ → Type 0
+EndsAfter n t = 0 < n → Ends t
+
+-- what was read into xs, where r says that something was
+abbrev pub filled : {A : Type 0} → Option (Unit {0}) → A → Option A
+filled (Some x) xs = Some xs
+filled None xs = None
+
+-- a number after one blank, then the line end, and then t
+abbrev pub lastField : ℕ → List ℕ → List ℕ
+lastField n t = 32 ∷ (decimal n ++ (10 ∷ t))

@@ -2,6 +2,7 @@
 // Fields of a line are split by one blank, and every line ends with byte 10.
 pub mod cursor;
 pub mod fault;
+pub mod field;
 pub mod fixed;
 pub mod lexer;
 pub mod number_lines;

@@ -1,7 +1,7 @@
-// Reading the text of one number: base ten, one to ten digits, no sign, no leading zero.
+// Reading the text of one number: base ten, one to ten digits, no leading zero.
 ghost use Rattle.std.specs.Orderings.{Decides};
-ghost use Rattle.std.specs.Written.{decimal};
-ghost use Rattle.lines.specs.Numeral.{FewBytes, IsDigit, IsValue, LeadingZero, Short, Spelt};
+ghost use Rattle.std.specs.Written.{decimal, signed};
+ghost use Rattle.lines.specs.Numeral.{FewBytes, IsDigit, IsValue, LeadingZero, Short, ShortZ, Spelt};
 
 fn is_digit(byte: u8) -> bool
     ensures { λ r. ⌜ Decides r (IsDigit byte) ⌝ }
@@ -49,4 +49,23 @@ pub fn number(text: &[u8]) -> Option<u64>
         return None;
     }
     digits_value(text)
+}
+
+// The same, where a minus may stand before a number that is not 0.
+pub fn integer(text: &[u8]) -> Option<i64>
+    ensures { λ r. ⌜ Spelt ShortZ signed (now (text .entry)) r ⌝ }
+{
+    if text.len() > 0 && text[0] == b'-' {
+        let Some(n) = number(&text[1..]) else {
+            return None;
+        };
+        if n == 0 {
+            return None;
+        }
+        return Some(-(n as i64));
+    }
+    let Some(n) = number(text) else {
+        return None;
+    };
+    Some(n as i64)
 }

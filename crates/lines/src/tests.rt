@@ -22,6 +22,16 @@ fn other_texts_are_no_numbers() -> Result<(), Fail> {
     Ok(())
 }
 
+#[test]
+fn integers_may_have_a_minus() -> Result<(), Fail> {
+    check_eq(numeral::integer(b"-9999999999"), Some(-9_999_999_999))?;
+    check_eq(numeral::integer(b"0"), Some(0))?;
+    for text in ["", "-", "-0", "--7", "-07", "7-", "-12345678901"] {
+        check_eq(numeral::integer(text.as_bytes()), None).note(text)?;
+    }
+    Ok(())
+}
+
 // The sort of the next token by a letter, with its length, its offset and its line.
 fn next_parts(tokens: &mut Tokens) -> Option<(char, usize, usize, usize)> {
     match tokens.next() {

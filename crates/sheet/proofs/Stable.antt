@@ -1,11 +1,13 @@
 -- The rules of a record can be decided, so that a record that no cause speaks against keeps them.
-use mathlib.Core.Path.{_≡_}
-use mathlib.Core.List.{List}
+use mathlib.Core.Path.{_≡_, refl, ap}
+use mathlib.Core.List.{List, [], _∷_}
 use mathlib.Core.Logic.{_⊎_, inl, inr, ⊎-elim}
 use Prim.Native.Nat.{ℕ, _≤_, _<_}
 use native.Mathlib.Omega.{arith}
 use Rattle.std.proofs.shelf.Tests.{cases-lt}
+use Rattle.std.specs.shelf.Lists.{All}
 use Rattle.std.specs.declared.option.Option.{Option}
+use Rattle.std.specs.declared.option.Option.the-variants.{Some, None}
 use Rattle.effect.specs.Laws.{Operations}
 use Rattle.refusals.specs.declared.Refusal.the-variants.{RecordNumber, LoadFactor, Reduction, Group, Reach}
 use Rattle.loads.specs.Letters.{letterOf}
@@ -14,8 +16,9 @@ use Rattle.loads.specs.declared.kinds.Kind.{Kind}
 use Rattle.loads.specs.declared.kinds.Kind.the-variants.{Permanent, LongTerm, ShortTerm, Special}
 use Rattle.loads.specs.declared.records.Load.{Load}
 use Rattle.loads.specs.declared.records.Record.{Record}
-use Rattle.sheet.specs.Ledger.{Clear, Cause, recordOf}
+use Rattle.sheet.specs.Ledger.{Clear, Cause, Other, Agrees, recordOf}
 use Rattle.sheet.specs.declared.changes.Change.the-variants.{Enter, Alter}
+use Rattle.sheet.proofs.Causes.{same-kind}
 
 -- what is not refuted holds
 abbrev Stable : Type 0 → Type 0
@@ -76,7 +79,29 @@ group-stable LongTerm g nn = le-stable _ _ nn
 group-stable ShortTerm g nn = le-stable _ _ nn
 group-stable Special g nn = eq-stable _ _ nn
 
+kind-stable : (j k : Kind) → Stable (j ≡ k)
+kind-stable j k nn = same-kind (letterOf k) j k (eq-stable _ _ (λ n. nn (λ e. n (ap letterOf e)))) refl
+
+all-stable : {X : Type 0} (P : X → Type 0) (xs : List X) → ((x : X) → Stable (P x)) → Stable (All P xs)
+all-stable P [] each nn = tt
+all-stable P (x ∷ xs) each nn = (each x (λ n. nn (λ h. n (h .0))), all-stable P xs each (λ n. nn (λ h. n (h .1))))
+
+-- that the records of a group are of one kind, beside the others
+agrees-stable : {E : Type 0} (own : Option ℕ) (k : Kind) (g : ℕ) (b : List (Record E)) → Stable (All (λ r. Other own r → Agrees k g r) b)
+agrees-stable own k g b = all-stable _ b (λ r nn other some same. kind-stable (r .kind) k (λ n. nn (λ h. n (h other some same))))
+
 module _ {E : Type 0} (o : Operations E) (p : ℕ) (b : List (Record E)) (n l : ℕ) (x : Load E) (k : Kind) (is : letterOf k ≡ l) where
+  -- an accepted record agrees with the others in its group
+  pub enter-agrees : Clear (Cause o p b (Enter n l x)) → All (λ r. Agrees k (x .group) r) b
+  enter-agrees clear = all-map b (agrees-stable None k (x .group) b (λ not. clear Group (k, is, λ h. not (h .1))))
+    where
+      all-map : (b : List (Record E)) → All (λ r. Other None r → Agrees k (x .group) r) b → All (λ r. Agrees k (x .group) r) b
+      all-map [] h = tt
+      all-map (r ∷ b) h = (h .0 tt, all-map b (h .1))
+
+  pub alter-agrees : Clear (Cause o p b (Alter n l x)) → All (λ r. Other (Some n) r → Agrees k (x .group) r) b
+  alter-agrees clear = agrees-stable (Some n) k (x .group) b (λ not. clear Group (k, is, λ h. not (h .1)))
+
   -- the record of an accepted entry keeps the rules
   pub enter-ruled : Clear (Cause o p b (Enter n l x)) → Ruled o (recordOf n k x)
   enter-ruled clear = record {

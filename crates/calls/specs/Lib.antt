@@ -1,0 +1,5 @@
+pub mod Changes
+pub mod Entries
+pub mod Headers
+pub mod Names
+pub mod Records

@@ -1,0 +1,12 @@
+pub mod Carrying
+pub mod Computing
+pub mod Contributions
+pub mod Deciding
+pub mod Enumerating
+pub mod Existence
+pub mod Invariance
+pub mod Places
+pub mod Ranges
+pub mod Rearranging
+pub mod Summing
+pub mod Witnesses

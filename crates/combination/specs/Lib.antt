@@ -1,0 +1,10 @@
+pub mod Choices
+pub mod Combined
+pub mod Computing
+pub mod Examples
+pub mod Existence
+pub mod Invariance
+pub mod Lists
+pub mod Loads
+pub mod Sound
+pub mod Worst

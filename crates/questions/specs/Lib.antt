@@ -1,0 +1,9 @@
+pub mod Items
+pub mod PartChoices
+pub mod BestParts
+pub mod Rows
+pub mod Tables
+pub mod Parts
+pub mod Promises
+pub mod Engine
+pub mod Weights
