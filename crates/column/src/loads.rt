@@ -32,7 +32,7 @@ fn set_loads(class: u64, area: u64, load: u64, count: u64) -> (u64, u64)
 }
 
 // The loads of any storey: none where it is unset.
-pub fn loads_of(storey: Storey, count: u64) -> (u64, u64)
+pub(crate) fn loads_of(storey: Storey, count: u64) -> (u64, u64)
     requires ranges { ⌜ fits storey ≡ true ⌝ }
     requires some { ⌜ (isSet storey ≡ true → 1 ≤ count) ⌝ }
     requires few { ⌜ count ≤ 40 ⌝ }

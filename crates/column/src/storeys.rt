@@ -28,7 +28,7 @@ pub struct Table {
 
 impl Table {
     // A table with no storey set.
-    pub fn blank() -> Table
+    pub(crate) fn blank() -> Table
         ensures { λ r. ⌜ r .storeys ≡ replicate 40 Storey.Unset ⌝ }
     {
         Table {
@@ -37,7 +37,7 @@ impl Table {
     }
 
     // Changes the storey at a place.
-    pub fn put(&mut self, i: usize, class: u64, area: u64, load: u64)
+    pub(crate) fn put(&mut self, i: usize, class: u64, area: u64, load: u64)
         requires { ⌜ i < 40 ⌝ }
         ensures table { λ _. ⌜ now (self .exit) .storeys ≡ set (now (self .entry) .storeys) i (Storey.Set class area load) ⌝ }
         ensures place { λ _. ⌜ getD (now (self .exit) .storeys) i Storey.Unset ≡ Storey.Set class area load ⌝ }
@@ -47,7 +47,7 @@ impl Table {
     }
 
     // How many of the storeys from 1 to `last` are set.
-    pub fn count_set(&self, last: u64) -> u64
+    pub(crate) fn count_set(&self, last: u64) -> u64
         requires { ⌜ last ≤ 40 ⌝ }
         ensures { λ r. ⌜ r ≡ setCount last (now (self .entry) .storeys) ⌝ }
     {
@@ -63,7 +63,7 @@ impl Table {
     }
 
     // The number of the lowest storey that is set, or 0.
-    pub fn lowest(&self) -> u64
+    pub(crate) fn lowest(&self) -> u64
         ensures { λ r. ⌜ Lowest (now (self .entry) .storeys) r ⌝ }
     {
         let mut lowest = 0;

@@ -69,8 +69,8 @@ impl<'a> Tokens<'a> {
         ensures { λ r. ⌜ ReadsLine (Row Short K) numbersLine (now (self .entry)) r (now (self .exit)) ⌝ }
     {
         let mut out = [0u64; K];
-        for i in 0..K {
-            out[i] = self.item(i)?;
+        for k in 0..K {
+            out[k] = self.item(k)?;
         }
         self.line_end()?;
         Some(out)

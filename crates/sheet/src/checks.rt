@@ -91,9 +91,9 @@ fn group_fits<E: Effect>(records: &[Record<E>], own: Option<u64>, kind: Kind, gr
 pub(crate) fn position<E: Effect>(records: &[Record<E>], number: u64) -> Option<usize>
     ensures { λ r. ⌜ BySome r (Missing number (now (records .entry))) (λ i. (i < length (now (records .entry))) × At (λ b. b .number ≡ number) (now (records .entry)) i) ⌝ }
 {
-    for (i, beside) in records.iter().enumerate() {
+    for (place, beside) in records.iter().enumerate() {
         if beside.number == number {
-            return Some(i);
+            return Some(place);
         }
     }
     None

@@ -63,10 +63,10 @@ impl<E: Effect> Sheet<E> {
         ensures places { λ r. ⌜ placesOf (now (self .exit)) ≡ placesOf (now (self .entry)) ⌝ }
     {
         let kind = checked(self.records.as_slice(), Some(number), number, letter, &load)?;
-        let Some(i) = position(self.records.as_slice(), number) else {
+        let Some(place) = position(self.records.as_slice(), number) else {
             return Err(Refusal::NumberMissing);
         };
-        self.put(i, Record { number, kind, load });
+        self.put(place, Record { number, kind, load });
         Ok(())
     }
 
@@ -78,10 +78,10 @@ impl<E: Effect> Sheet<E> {
         if !number_in(number) {
             return Err(Refusal::RecordNumber);
         }
-        let Some(i) = position(self.records.as_slice(), number) else {
+        let Some(place) = position(self.records.as_slice(), number) else {
             return Err(Refusal::NumberMissing);
         };
-        self.take_out(i);
+        self.take_out(place);
         Ok(())
     }
 }

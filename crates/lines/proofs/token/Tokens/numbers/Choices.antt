@@ -3,5 +3,5 @@ use Rattle.lines.specs.Numeral.{Short}
 use Rattle.lines.proofs.Rows.{Sofar}
 use Rattle.lines.proofs.token.Tokens.numbers.Given as given
 
-abbrev pub Inv-loop-i : given.InvT-loop-i
-Inv-loop-i g l = Sofar Short decimal (g .K) (l .i) (l .out) (l .entry .self) (l .self)
+abbrev pub Inv-loop-k : given.InvT-loop-k
+Inv-loop-k g l = Sofar Short decimal (g .K) (l .k) (l .out) (l .entry .self) (l .self)

@@ -41,10 +41,10 @@ returns g c =
     let s = c .as-slice-2 .result .now in
     let same = c .as-slice-2 .ensures .value in
     let at = c .in-Some .ensures tt in
-    let new = altered n s b same (c .in-Some .i) at (recordOf n (c .in-Continue-kind .kind) (c .args .load)) in
+    let new = altered n s b same (c .in-Some .place) at (recordOf n (c .in-Continue-kind .kind) (c .args .load)) in
     record {
       ledger = (
-        alter-clear (g .E·Effect .means) n (c .args .letter) (c .args .load) b (c .as-slice .result .now) (c .as-slice .ensures .value) (placesOf (c .args .self .now)) (c .in-Continue-kind .ensures tt .1) (there n s b same (c .in-Some .i) at),
+        alter-clear (g .E·Effect .means) n (c .args .letter) (c .args .load) b (c .as-slice .result .now) (c .as-slice .ensures .value) (placesOf (c .args .self .now)) (c .in-Continue-kind .ensures tt .1) (there n s b same (c .in-Some .place) at),
         (c .in-Continue-kind .kind, c .in-Continue-kind .ensures tt .0, (new .0, new .1, new .2, new .3, new .4, c .put .ensures .records ∙ new .5)),
       );
       places = c .put .ensures .places;

@@ -11,10 +11,10 @@ returns g c =
     let same = c .as-slice .ensures .value in
     let at = c .in-Some .ensures tt in
     let number = c .number-in .ensures .0 (c .if-not-number-in .left) in
-    let out = struck n s b same (c .in-Some .i) at in
+    let out = struck n s b same (c .in-Some .place) at in
     record {
       ledger = (
-        strike-clear (g .E·Effect .means) (placesOf (c .args .self .now)) n b number (there n s b same (c .in-Some .i) at),
+        strike-clear (g .E·Effect .means) (placesOf (c .args .self .now)) n b number (there n s b same (c .in-Some .place) at),
         (out .0, out .1, out .2, out .3, out .4, c .take-out .ensures .records ∙ out .5),
       );
       places = c .take-out .ensures .places;
