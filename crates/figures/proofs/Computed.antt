@@ -9,6 +9,7 @@ use Rattle.std.proofs.shelf.Tests.{and-parts, leb-true}
 use Rattle.reduction.specs.Factor.{InRange, Factor, factorOf, first}
 use Rattle.reduction.proofs.Factors.{factor-exists}
 use Rattle.figures.specs.Figures.{Factors, Figures}
+use Rattle.figures.proofs.Worsts.{combinations}
 
 -- the ranges as a test, which computes
 abbrev inside : (class area storeys : ℕ) → Bool
@@ -67,4 +68,4 @@ factors = record {
 }
 
 pub figures : Figures
-figures = record { factors = factors }
+figures = record { factors = factors; combinations = combinations }

@@ -1,5 +1,6 @@
 -- The worked figures.
 use Rattle.reduction.specs.Factor.{Factor}
+use Rattle.figures.specs.Combinations.{Combinations}
 
 -- Reduction factors. Areas are in hundredths of a square metre, factors in ten-thousandths.
 pub record Factors : Type 0 where
@@ -12,3 +13,4 @@ pub record Factors : Type 0 where
 
 pub record Figures : Type 0 where
   pub factors : Factors
+  pub combinations : Combinations
