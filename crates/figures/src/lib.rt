@@ -4,6 +4,9 @@ ghost use mathlib.Core.List.{[], _∷_};
 ghost use Rattle.reduction.specs.Factor.{InRange, factorOf};
 ghost use Rattle.figures.specs.Figures.{Figures};
 
+#[cfg(test)]
+mod tests;
+
 // A factor in range.
 fn factor(class: u64, area: u64, storeys: u64) -> u64
     requires { ⌜ InRange class area storeys ⌝ }
