@@ -41,6 +41,9 @@ pub record SpacedSofar {A : Type 0} (valid : A → Type 0) (written : A → List
   pub stops : 0 < i → Ends (rest u)
   pub text : SameText s u
 
+pub spaced-none : {A : Type 0} {valid : A → Type 0} {written : A → List ℕ} {n : ℕ} {out : List A} → length out ≡ n → (s : Tokens) → SpacedSofar valid written n 0 out s s
+spaced-none size s = record { size = size; row = tt; cut = refl; stops = λ h. absurd (omega arith); text = refl }
+
 module _ {A : Type 0} {valid : A → Type 0} {written : A → List ℕ} {n i : ℕ} {out : List A} {s u : Tokens} (h : SpacedSofar valid written n i out s u) where
   pub spaced-more : (v : Tokens) (a : A) → i < n → Reads valid (led true written) Ends u (Some a) v → SpacedSofar valid written n (i + 1) (set out i a) s v
   spaced-more v a more got =
