@@ -89,7 +89,7 @@ fn larger(
     match (a, b) {
         (None, _) => b,
         (_, None) => a,
-        (Some(x), Some(y)) => match total(rs, ws, p, &x).cmp(&total(rs, ws, p, &y)) {
+        (Some(one), Some(other)) => match total(rs, ws, p, &one).cmp(&total(rs, ws, p, &other)) {
             Ordering::Less => b,
             _ => a,
         },
