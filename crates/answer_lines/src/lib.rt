@@ -1,4 +1,6 @@
 // Writing the answer to a question: the effect, and then the choice, a line a record.
+#![tactic(auto)]
+
 mod answers;
 mod choices;
 mod sections;

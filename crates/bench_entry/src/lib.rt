@@ -1,4 +1,6 @@
 // The two questions as functions that Rust and C can call, to be timed beside plain Rust.
+#![tactic(auto)]
+
 mod entries;
 mod forces;
 

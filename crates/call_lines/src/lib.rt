@@ -1,4 +1,6 @@
 // The lines of a run of calls on a sheet: its first line, the calls, what is said of each and the records.
+#![tactic(auto)]
+
 mod call;
 mod entry;
 mod header;

@@ -1,4 +1,6 @@
 // The lines of a run of calls on a sheet: its first line, the calls and the records.
+#![tactic(auto)]
+
 mod change;
 mod entry;
 mod header;

@@ -1,4 +1,6 @@
 // The loads of a column: what is set for each storey, and the load that comes down to a section.
+#![tactic(auto)]
+
 ghost use Rattle.std.specs.Prelude.{◌≡◌, replicate};
 ghost use Rattle.column.specs.Answer.{Replaced, SetAnswer, Loads, SectionAnswer, Lowest};
 ghost use Rattle.column.specs.Loads.{Numbered, InRange, Ranges, EachInRange};

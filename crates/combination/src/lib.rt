@@ -1,4 +1,6 @@
 // Combinations of loads: choices, which of them are admissible, what they come to, and which is the worst.
+#![tactic(auto)]
+
 mod admissible;
 mod answers;
 mod contribution;

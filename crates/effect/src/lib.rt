@@ -1,4 +1,6 @@
 // Effects of loads: values that are added, multiplied, compared and written.
+#![tactic(auto)]
+
 mod integers;
 mod moments;
 mod names;

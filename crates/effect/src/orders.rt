@@ -6,21 +6,21 @@ use std::cmp::Ordering;
 
 // How a and b compare, with what the laws give of that.
 fn ordered<E: Effect>(a: E, b: E) -> Ordering
-    ensures { Ordered means a b result }
+    ensures { Ordered E.means a b result }
 {
     a.compare(b)
 }
 
 // Whether a is at most b.
 pub fn at_most<E: Effect>(a: E, b: E) -> bool
-    ensures { Compared means a b result }
+    ensures { Compared E.means a b result }
 {
     ordered(a, b).is_le()
 }
 
 // The larger of two effects.
 pub fn larger<E: Effect>(a: E, b: E) -> E
-    ensures { LargerOf means a b result }
+    ensures { LargerOf E.means a b result }
 {
     match ordered(a, b) {
         Ordering::Less => b,

@@ -7,7 +7,7 @@ use crate::traits::Effect;
 
 // The sum of all effects of a slice, while their reaches together are within the limit; beyond it what is given is left free.
 pub fn sum_all<E: Effect>(effects: &[E]) -> E
-    ensures { reaches means effects.now ≤ limit → Summed means effects.now result }
+    ensures { reaches E.means effects.now ≤ limit → Summed E.means effects.now result }
 {
     let mut sum = E::zero();
     for x in effects {
@@ -18,7 +18,7 @@ pub fn sum_all<E: Effect>(effects: &[E]) -> E
 
 // p times an effect where it is taken, while that is within the limit; zero where it is not taken.
 pub fn multiple_if<E: Effect>(effect: E, p: u64, taken: bool) -> E
-    ensures { Counted means effect p taken result }
+    ensures { Counted E.means effect p taken result }
 {
     if taken { effect.multiple(p) } else { E::zero() }
 }

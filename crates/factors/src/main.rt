@@ -1,4 +1,6 @@
 // Answers the reduction factor for each line `CLASS AREA STOREYS` of standard input.
+#![tactic(auto)]
+
 use lines::number_lines::NumberLines;
 use listing::Reply;
 use std::io;

@@ -1,4 +1,6 @@
 // Worked figures, computed and proved over the definitions in one statement.
+#![tactic(auto)]
+
 ghost use Rattle.std.specs.Prelude.{◌≡◌, [], ◌∷◌};
 ghost use Rattle.reduction.specs.Factor.{InRange, factor_of};
 ghost use Rattle.figures.specs.Figures.{Figures};

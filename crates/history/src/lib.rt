@@ -1,4 +1,6 @@
 // The whole history of a sheet: opened blank, and then given calls in any number and order.
+#![tactic(auto)]
+
 mod asking;
 mod basic_only;
 mod calls;

@@ -1,6 +1,6 @@
 -- Texts of numbers with a sign.
 -- Assumes nothing.
-use Rattle.std.proofs.Common.{◌≡◌, ℕ, zero, suc, ◌-◌, ◌^◌, ◌<◌, cond, ◌&&◌, ◌||◌, eqb, leb, List, [], ◌∷◌, length, get_or, take, drop, ℤ, pos, negsuc, ◌-ℤ◌, nat_abs, Some, decimal, sym, refl, ap, ◌∙◌, subst, arith, w64, to_z, of_z}
+use Rattle.std.proofs.Common.{◌≡◌, ℕ, zero, suc, ◌-◌, ◌^◌, ◌<◌, List, ◌∷◌, length, get_or, take, drop, ℤ, pos, negsuc, ◌-ℤ◌, nat_abs, Some, decimal, sym, refl, ap, ◌∙◌, subst, arith, w64, to_z, of_z}
 use lib.Signed.{mag}
 use Rattle.std.specs.Fmt.{signed_decimal}
 use Rattle.std.proofs.lemmas.Int.{ints}

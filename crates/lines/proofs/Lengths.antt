@@ -1,6 +1,6 @@
 -- A line that is read leaves less of the text.
 -- Assumes nothing.
-use Rattle.std.proofs.Common.{ℕ, ◌<◌, ◌≤◌, List, [], ◌∷◌, ◌++◌, length, decimal, arith, length-append}
+use Rattle.std.proofs.Common.{ℕ, ◌<◌, ◌≤◌, List, [], ◌∷◌, length, decimal, arith, length-append}
 use Rattle.lines.specs.Reading.{spaced, fields_of, numbers_line}
 
 module _ {A : Type 0} (written : A → List ℕ) where

@@ -1,6 +1,6 @@
 -- Rows of values that are each written as a field after one blank.
 -- Assumes nothing.
-use Rattle.std.proofs.Common.{◌≡◌, ℕ, ◌+◌, ◌<◌, ◌≤◌, true, List, [], ◌∷◌, ◌++◌, length, take, set, Some, None, sym, refl, ap, ◌∙◌, subst, arith, length-set}
+use Rattle.std.proofs.Common.{◌≡◌, ℕ, ◌+◌, ◌<◌, true, List, [], ◌∷◌, length, take, set, Some, None, sym, refl, ap, ◌∙◌, subst, arith, length-set}
 use Rattle.std.proofs.ByRecursion.{All-push}
 use Rattle.std.proofs.lemmas.List.{take_more_set, take_all, length-take-le}
 use Rattle.std.specs.List.{AllByRecursion as All}

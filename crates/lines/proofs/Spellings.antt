@@ -1,8 +1,8 @@
 -- Values that are each written as one field.
 -- Assumes nothing.
-use Rattle.std.proofs.Common.{◌≡◌, ℕ, ◌+◌, ◌<◌, Bool, true, false, List, ◌++◌, length, Some, None, Option, sym, refl, ap, ◌∙◌, subst, arith}
+use Rattle.std.proofs.Common.{◌≡◌, ℕ, Bool, true, false, List, ◌++◌, Some, None, Option, sym, refl, ap, ◌∙◌, subst, arith}
 use Rattle.lines.specs.Lexing.{Sort, rest}
-use Rattle.lines.specs.Lines.{field, newlines}
+use Rattle.lines.specs.Lines.{newlines}
 use Rattle.lines.specs.Numeral.{Spelt}
 use Rattle.lines.specs.Reading.{Ends, FieldText, Reads, blank_if, itself, led}
 use Rattle.lines.specs.declared.token.Tokens.{Tokens}

@@ -44,4 +44,8 @@ impl<'a, const K: usize> Iterator for NumberLines<'a, K> {
         };
         Some(Ok(numbers))
     }
+
+    fn size_hint(&self) -> (usize, Option<usize>) {
+        (0, None)
+    }
 }

@@ -1,4 +1,6 @@
 // What the list programs say of each line.
+#![tactic(auto)]
+
 mod factors;
 mod norm_tables;
 mod take_down;

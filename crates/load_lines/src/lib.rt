@@ -1,4 +1,6 @@
 // What the lines of a run of calls and of a sheet's text share: the two names of a first line, and the numbers of a load.
+#![tactic(auto)]
+
 mod load_writer;
 mod names;
 mod reading;

@@ -1,4 +1,6 @@
 // The loads on one section, as records.
+#![tactic(auto)]
+
 mod kinds;
 mod records;
 

@@ -1,7 +1,6 @@
 -- The tables of SP20 and SNIP85: what they say inside the ranges, and 0 outside them.
 use Rattle.std.specs.Prelude.{ℕ, ◌+◌, cond, ◌==◌}
 use Rattle.norm.specs.Percentages.{Percentages, inside}
-use Rattle.norm.specs.declared.terms.Term.{Term}
 use Rattle.norm.specs.declared.terms.Term.TheVariants.{Long, Short}
 
 -- the percentages of the roles 1, 2 and 3

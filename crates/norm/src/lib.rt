@@ -1,4 +1,6 @@
 // Norms: the percentage at which a load counts in a combination.
+#![tactic(auto)]
+
 pub use names::NormName;
 pub use percentages::{Norm, SpecialNorm};
 pub use roles::Role;

@@ -1,4 +1,6 @@
 // The two questions to a list of loads: the worst basic and the worst special combination.
+#![tactic(auto)]
+
 mod choice;
 mod groups;
 mod join;

@@ -1,10 +1,10 @@
 -- The laws of a factor: it is the norm's formula, rounded up, and falls with area and storeys.
 -- Assumes nothing.
-use Rattle.std.proofs.Common.{◌≡◌, ℕ, zero, suc, ◌+◌, ◌-◌, ◌*◌, ◌≤◌, max, Ok, Err, Result, sym, refl, subst, inl, inr, ⊎_elim, le_trans, mul-le-mul, mul-le-mul_left, arith, lit≤}
+use Rattle.std.proofs.Common.{◌≡◌, ℕ, ◌-◌, ◌*◌, ◌≤◌, max, Ok, Err, Result, sym, refl, subst, inl, inr, ⊎_elim, le_trans, mul-le-mul, mul-le-mul_left, arith, lit≤}
 use Rattle.refusals.specs.declared.Refusal.{Refusal}
 use Rattle.reduction.specs.Answer.{Given, Answer, AnswerBy}
-use Rattle.reduction.specs.Factor.{Smallest, Sized, InRange, Reduced, Factor, rooms, halls}
-use Rattle.reduction.specs.Laws.{NotBelow, NotBelowNorm, lowest, Laws}
+use Rattle.reduction.specs.Factor.{Sized, InRange, Reduced, Factor, rooms, halls}
+use Rattle.reduction.specs.Laws.{NotBelow, NotBelowNorm, lowest}
 use Rattle.reduction.specs.declared.formula.Formula.{Formula}
 use Rattle.reduction.proofs.Factors.{factor_0, factor_1, factor_2, factor_exists, factor_only}
 

@@ -1,5 +1,7 @@
 // The reduction of a floor load for the area that it is taken over and for the number of storeys.
 // A factor is in ten-thousandths, an area in hundredths of a square metre.
+#![tactic(auto)]
+
 ghost use Rattle.reduction.specs.Answer.{Answer, AnswerBy};
 ghost use Rattle.reduction.specs.Factor.{Usable, rooms, halls};
 

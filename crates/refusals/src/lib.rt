@@ -1,4 +1,6 @@
 // Why a call is refused. Each case has the number by which users know it.
+#![tactic(auto)]
+
 ghost use Rattle.std.specs.Prelude.{◌≡◌};
 ghost use Rattle.refusals.specs.Numbers.{number_of};
 

@@ -1,4 +1,6 @@
 // Makes the calls of standard input on a sheet, and says what each came to and which records the sheet then holds.
+#![tactic(auto)]
+
 mod said;
 
 use calls::{RecordLine, read_change, read_header};

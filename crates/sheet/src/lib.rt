@@ -1,4 +1,6 @@
 // A sheet of the loads on one section: records are entered, altered and struck off.
+#![tactic(auto)]
+
 mod changes;
 mod checks;
 mod store;

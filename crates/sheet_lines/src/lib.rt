@@ -1,4 +1,6 @@
 // The lines of a sheet's text: the names, the counts of the kinds, and a body for each record.
+#![tactic(auto)]
+
 mod bodies;
 mod counts;
 mod fault;

@@ -1,4 +1,6 @@
 // Reading the text form of a sheet: the names, the counts, and then the bodies, which are entered one by one.
+#![tactic(auto)]
+
 mod bodies;
 mod faults;
 mod sheets;

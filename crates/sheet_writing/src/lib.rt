@@ -1,4 +1,6 @@
 // Writing the text form of a sheet.
+#![tactic(auto)]
+
 mod bodies;
 mod headings;
 mod sheets;

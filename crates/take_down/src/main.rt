@@ -1,4 +1,6 @@
 // Says the loads of a column, read from lines `STOREY CLASS AREA Q` of standard input, for each section.
+#![tactic(auto)]
+
 use column::Column;
 use listing::{Section, read_column};
 use std::io;

@@ -1,4 +1,6 @@
 // From the text of a sheet to its report.
+#![tactic(auto)]
+
 mod memory;
 mod reports;
 #[cfg(test)]

@@ -1,5 +1,7 @@
 // The report of a sheet's text: its worst basic and its worst special combination.
 // Without arguments the text is read from standard input; otherwise each argument is the path of a text, or - for standard input.
+#![tactic(auto)]
+
 use std::fs::File;
 use std::io::{Read, Write};
 use std::{env, io};

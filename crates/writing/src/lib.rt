@@ -1,4 +1,6 @@
 // Writing text into a buffer that the caller lends, byte by byte and without memory of its own.
+#![tactic(auto)]
+
 mod numbers;
 mod passes;
 mod writer;

@@ -3,5 +3,5 @@ use Rattle.figures.proofs.figures.Goals as goal
 
 pub returns : goal.returns
 returns c =
-    let r = c.worked-factors.ensures in
+    let r = c.worked_factors.ensures in
     record { factors = cc (nine_square_metres, little_more, twenty, four_storeys, three_storeys, hall); figures = figures }

@@ -6,4 +6,4 @@ use Rattle.replay.proofs.make_calls.Goals as goal
 pub loop-tokens-smaller : goal.loop-tokens-smaller
 loop-tokens-smaller g c =
     let read = c.in-Some.ensures.reads in
-    omega (arith, ap length read.1, change_longer g.E.Written.writes c.in-Some.change (rest c.read-change.new.tokens))
+    omega (arith, ap length read.1, change_longer g.E.Written.writes c.in-Some.change (rest c.read_change.new.tokens))

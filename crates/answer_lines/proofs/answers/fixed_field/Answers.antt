@@ -5,4 +5,4 @@ use Rattle.writing.proofs.Overlays.{then, so}
 use Rattle.answer_lines.proofs.answers.fixed_field.Goals as goal
 
 pub returns : goal.returns
-returns c = so (ap (λ z. 32 ∷ signed_fixed8 z) (to_z-of_z w64 c.args.z c.ranges.z)) (then c.put.ensures c.signed-fixed.ensures)
+returns c = so (ap (λ z. 32 ∷ signed_fixed8 z) (to_z-of_z w64 c.args.z c.ranges.z)) (then c.put.ensures c.signed_fixed.ensures)

@@ -7,4 +7,4 @@ use Rattle.answer_lines.proofs.answers.write_head.Goals as goal
 pub returns : goal.returns
 returns g c =
     let zs = g.E.Written.writes.numbers c.args.effect in
-    so (ap (λ l. c.args.word.now ++ l) (spaced_append signed_fixed8 zs [] (10 ∷ []))) (then c.word.ensures (then c.write-effect.ensures c.put.ensures))
+    so (ap (λ l. c.args.word.now ++ l) (spaced_append signed_fixed8 zs [] (10 ∷ []))) (then c.word.ensures (then c.write_effect.ensures c.put.ensures))

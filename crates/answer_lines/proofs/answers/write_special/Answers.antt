@@ -14,4 +14,4 @@ returns g c =
     let zs = g.E.Written.writes.numbers c.args.answer.now.effect in
     let choice = choice_text norm (lines c.args.records.now c.args.answer.now.picks) in
     so (append_assoc (question_word WithSpecial) (spaced signed_fixed8 zs (10 ∷ [])) choice ∙ ap (λ l. question_word WithSpecial ++ l) (spaced_append signed_fixed8 zs (10 ∷ []) choice))
-    (then c.write-head.ensures (c.write-choice.ensures norm c.special-table-table.ensures))
+    (then c.write_head.ensures (c.write_choice.ensures norm c.special_table-table.ensures))

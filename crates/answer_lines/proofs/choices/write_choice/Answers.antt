@@ -8,4 +8,4 @@ use Rattle.answer_lines.proofs.choices.write_choice.Goals as goal
 pub returns : goal.returns
 returns g c norm asked =
     let ls = lines c.args.records.now c.args.picks.now in
-    so (ap (λ ss. sections_text ss ls) (tabled_is norm ls c.args.table asked)) c.write-sections.ensures
+    so (ap (λ ss. sections_text ss ls) (tabled_is norm ls c.args.table asked)) c.write_sections.ensures

@@ -12,4 +12,4 @@ returns g c =
     let ds = details c.args.section (r, c.args.pick) in
     so
     (append_assoc (decimal r.number) (32 ∷ (letter_of r.kind ∷ [])) (spaced decimal ds [] ++ (10 ∷ [])) ∙ ap (λ l. decimal r.number ++ (32 ∷ (letter_of r.kind ∷ l))) (spaced_append decimal ds [] (10 ∷ [])))
-    (then c.start.ensures (then c.write-details.ensures c.put.ensures))
+    (then c.start.ensures (then c.write_details.ensures c.put.ensures))

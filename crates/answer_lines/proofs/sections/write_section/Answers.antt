@@ -16,7 +16,7 @@ loop-i-preserved g c =
     let ps = c.args.picks.now in
     let i = c.loop-i.i in
     let here = lines_at rs ps i c.index-records-i.result Upper within ∙ ap (λ y. (y, get_or ps i Upper) ∷ lines (drop (i + 1) rs) (drop (i + 1) ps)) (sym c.index-records-i.is) in
-    onward_more c.loop-i.invariant (ap (section_text c.args.section) here) c.write-if-shown.ensures
+    onward_more c.loop-i.invariant (ap (section_text c.args.section) here) c.write_if_shown.ensures
 
 pub returns : goal.returns
 returns g c =

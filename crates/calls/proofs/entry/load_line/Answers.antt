@@ -2,17 +2,17 @@ use Rattle.lines.proofs.Sequences.{no_first, no_second, both}
 use Rattle.calls.proofs.EntryForm as form
 use Rattle.calls.proofs.entry.load_line.Goals as goal
 
-pub returns-in-err-fields : goal.returns-in-err-fields
-returns-in-err-fields g c =
+pub returns-in_err-fields : goal.returns-in_err-fields
+returns-in_err-fields g c =
     let q = form.load_line g.E.Written.writes g.met.E.Written.legible in
-    rw c.from-residual.ensures (no_first q c.args.tokens.now c.fields.new.self c.in-err-fields.ensures)
+    rw c.from_residual.ensures (no_first q c.args.tokens.now c.fields.new.self c.in_err-fields.ensures)
 
-pub returns-in-err-effect : goal.returns-in-err-effect
-returns-in-err-effect g c =
+pub returns-in_err-effect : goal.returns-in_err-effect
+returns-in_err-effect g c =
     let q = form.load_line g.E.Written.writes g.met.E.Written.legible in
-    rw c.from-residual-in-err-effect.ensures (no_second q c.args.tokens.now c.fields.new.self c.effect-line.new.tokens c.in-ok-fields.fields c.in-ok-fields.ensures c.in-err-effect.ensures)
+    rw c.from_residual-in_err-effect.ensures (no_second q c.args.tokens.now c.fields.new.self c.effect_line.new.tokens c.in_ok-fields.fields c.in_ok-fields.ensures c.in_err-effect.ensures)
 
 pub returns : goal.returns
 returns g c =
     let q = form.load_line g.E.Written.writes g.met.E.Written.legible in
-    both q c.args.tokens.now c.fields.new.self c.effect-line.new.tokens c.in-ok-fields.fields c.in-ok-effect.effect c.in-ok-fields.ensures c.in-ok-effect.ensures
+    both q c.args.tokens.now c.fields.new.self c.effect_line.new.tokens c.in_ok-fields.fields c.in_ok-effect.effect c.in_ok-fields.ensures c.in_ok-effect.ensures

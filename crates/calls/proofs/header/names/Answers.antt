@@ -2,5 +2,5 @@ use Rattle.lines.proofs.Sequences.{no_first, no_second, both}
 use Rattle.calls.proofs.HeaderForm as form
 use Rattle.calls.proofs.header.names.Goals as goal
 
-pub returns-in-err-effect : goal.returns-in-err-effect
-returns-in-err-effect c = rw c.from-residual-in-err-effect.ensures (no_second form.names c.args.tokens.now c.norm-name.new.tokens c.effect-name.new.tokens c.in-ok-norm.norm c.in-ok-norm.ensures c.in-err-effect.ensures)
+pub returns-in_err-effect : goal.returns-in_err-effect
+returns-in_err-effect c = rw c.from_residual-in_err-effect.ensures (no_second form.names c.args.tokens.now c.norm_name.new.tokens c.effect_name.new.tokens c.in_ok-norm.norm c.in_ok-norm.ensures c.in_err-effect.ensures)

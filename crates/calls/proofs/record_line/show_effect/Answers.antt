@@ -12,9 +12,9 @@ loop-place-preserved g c plain =
     let so_far = c.loop-place.invariant plain in
     let zs = g.E.Written.writes.numbers c.args.effect in
     let fits : SFits w64 c.number.result = search rules in
-    put_next g.W.Write.write_str_gives c.args.f.now signed_decimal c.loop-place.f c.show-integer.new.f zs c.loop-place.place (pos 0) _
+    put_next g.W.Write.write_str_gives c.args.f.now signed_decimal c.loop-place.f c.show_integer.new.f zs c.loop-place.place (pos 0) _
     (omega (arith, c.loop-place-test.true, c.count-place-end.ensures, g.met.E.Written.legible.numbers_count c.args.effect))
-    (to_z-of_z w64 c.number.result fits ∙ c.number.ensures) so_far (c.in-ok-show-integer.ensures so_far.plain (refl {a = true}))
+    (to_z-of_z w64 c.number.result fits ∙ c.number.ensures) so_far (c.in_ok-show_integer.ensures so_far.plain (refl {a = true}))
 
 pub returns : goal.returns
 returns g c plain ok =

@@ -8,8 +8,8 @@ loop-n-init g c plain = put_none g.W.Write.write_str_gives c.args.f.now plain
 pub loop-n-preserved : goal.loop-n-preserved
 loop-n-preserved g c plain =
     let so_far = c.loop-n.invariant plain in
-    put_next g.W.Write.write_str_gives c.args.f.now decimal c.loop-n.f c.show-number.new.f c.args.numbers.now c.loop-n.n-index 0 _
-    c.loop-n-test.true refl so_far (c.in-ok-show-number.ensures so_far.plain (refl {a = true}))
+    put_next g.W.Write.write_str_gives c.args.f.now decimal c.loop-n.f c.show_number.new.f c.args.numbers.now c.loop-n.n-index 0 _
+    c.loop-n-test.true refl so_far (c.in_ok-show_number.ensures so_far.plain (refl {a = true}))
 
 pub returns : goal.returns
 returns g c plain ok = put_all g.W.Write.write_str_gives c.args.f.now decimal c.loop-n.f c.args.numbers.now c.loop-n.n-index c.loop-n-test.false (c.loop-n.invariant plain)

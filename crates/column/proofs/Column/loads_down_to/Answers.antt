@@ -6,8 +6,8 @@ use Rattle.column.proofs.Upto.{sum_below, sum_past, count_some, count_few}
 use Rattle.column.proofs.Column.loads_down_to.Goals as goal
 use Rattle.column.proofs.Column.loads_down_to.Goals.{then-i-last, else-i-last}
 
-pub loads-of-f-requires : goal.loads-of-f-requires
-loads-of-f-requires c =
+pub loads_of-f-requires : goal.loads_of-f-requires
+loads_of-f-requires c =
     record {
       ranges = c.args.self.now.ranges c.loop-i.i;
       some =
@@ -15,9 +15,9 @@ loads-of-f-requires c =
           omega (
             arith,
             count_some is_set c.args.self.now.table.storeys c.loop-i.i c.args.last Unset refl c.if-i-last.true t,
-            c.count-set-count.ensures,
+            c.count_set-count.ensures,
           );
-      few = omega (arith, count_few is_set c.args.self.now.table.storeys c.args.last, c.count-set-count.ensures);
+      few = omega (arith, count_few is_set c.args.self.now.table.storeys c.args.last, c.count_set-count.ensures);
     }
 
 pub loop-i-preserved : goal.loop-i-preserved
@@ -25,16 +25,16 @@ loop-i-preserved c =
     let xs = c.args.self.now.table.storeys in
     let i = c.loop-i.i in
     let last = c.args.last in
-    let n = c.count-set-count.result in
+    let n = c.count_set-count.result in
     elim c.if-i-last.branch [
       | then-i-last w ↦
           omega (
             arith,
             w.full-is,
             w.reduced-is,
-            w.loads-of-f.ensures.full,
-            w.loads-of-f.ensures.reduced,
-            w.loads-of-f.ensures.bound,
+            w.loads_of-f.ensures.full,
+            w.loads_of-f.ensures.reduced,
+            w.loads_of-f.ensures.bound,
             sum_below full_of xs i last Unset refl w.if-i-last.true,
             sum_below (reduced_of n) xs i last Unset refl w.if-i-last.true,
           )
@@ -56,8 +56,8 @@ returns c =
     let full : c.loop-i.full ≡ full_load last xs = c.loop-i.invariant.0 ∙ ap (λ k. full_load k xs) m in
     let reduced : c.loop-i.reduced ≡ reduced_load last xs =
     c.loop-i.invariant.1
-    ∙ ap (λ k. sum_by (reduced_of c.count-set-count.result) (take k xs)) m
-    ∙ ap (λ n. sum_by (reduced_of n) (take last xs)) c.count-set-count.ensures in
+    ∙ ap (λ k. sum_by (reduced_of c.count_set-count.result) (take k xs)) m
+    ∙ ap (λ n. sum_by (reduced_of n) (take last xs)) c.count_set-count.ensures in
     record {
       full_sum = full;
       reduced_sum = reduced;

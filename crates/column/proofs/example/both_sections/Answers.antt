@@ -5,6 +5,6 @@ pub returns : goal.returns
 returns c =
     let first = below_1 c.args.column.now.table.storeys c.section.result c.requires c.section.ensures.loads in
     let second = below_2 c.args.column.now.table.storeys c.section-2.result c.requires c.section-2.ensures.loads in
-    let was-1 = c.in-ok-section.was in
-    let was-2 = c.in-ok-section-2.was in
+    let was-1 = c.in_ok-section.was in
+    let was-2 = c.in_ok-section-2.was in
     cc

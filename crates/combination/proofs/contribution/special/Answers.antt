@@ -5,4 +5,4 @@ use Rattle.combination.proofs.contribution.special.Goals as goal
 pub returns : goal.returns
 returns g c ruled =
     let o = g.E.Effect.means in
-    special_is o c.args.pick c.args.of.now _ _ c.is-taken.ensures c.weighted.ensures (in_range o _ ruled)
+    special_is o c.args.pick c.args.of.now _ _ c.is_taken.ensures c.weighted.ensures (in_range o _ ruled)

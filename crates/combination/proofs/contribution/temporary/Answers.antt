@@ -7,5 +7,5 @@ use Rattle.combination.proofs.contribution.temporary.Goals as goal
 pub returns : goal.returns
 returns g c ruled most =
     let o = g.E.Effect.means in
-    let f = c.reduction-of-reduction.ensures in
-    temporary_is o c.args.pick c.args.of.now (by_role c.args.percents) _ _ _ _ _ _ c.role.ensures c.at.ensures (f.value (range_of _ _ _ _ ruled.reduction)) f.most (most (role c.args.pick)) c.saturating-mul-weight.ensures c.is-taken.ensures c.weighted.ensures (in_range o _ ruled)
+    let f = c.reduction_of-reduction.ensures in
+    temporary_is o c.args.pick c.args.of.now (by_role c.args.percents) _ _ _ _ _ _ c.role.ensures c.at.ensures (f.value (range_of _ _ _ _ ruled.reduction)) f.most (most (role c.args.pick)) c.saturating_mul-weight.ensures c.is_taken.ensures c.weighted.ensures (in_range o _ ruled)

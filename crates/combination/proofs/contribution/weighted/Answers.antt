@@ -2,4 +2,4 @@ use Rattle.combination.proofs.Computing.{weighted_is}
 use Rattle.combination.proofs.contribution.weighted.Goals as goal
 
 pub returns : goal.returns
-returns g c = weighted_is g.E.Effect.means c.args.effect _ c.args.factor c.args.weight c.args.taken _ c.saturating-mul.ensures c.multiple-if.ensures
+returns g c = weighted_is g.E.Effect.means c.args.effect _ c.args.factor c.args.weight c.args.taken _ c.saturating_mul.ensures c.multiple_if.ensures

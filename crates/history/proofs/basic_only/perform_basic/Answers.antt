@@ -9,6 +9,6 @@ returns g c =
     record {
       law = λ special.
           performed_basic g.E.Effect.means g.met.E.Effect.lawful (both (g.M.Norm.percentages n) special) (places_of c.args.sheet.now) (held c.args.sheet.now)
-          c.args.call c.step-basic.result (held c.step-basic.new.sheet) (c.step-basic.ensures.stepped special) (g.met.M.Norm.ranged n);
-      places = c.step-basic.ensures.places;
+          c.args.call c.step_basic.result (held c.step_basic.new.sheet) (c.step_basic.ensures.stepped special) (g.met.M.Norm.ranged n);
+      places = c.step_basic.ensures.places;
     }

@@ -5,14 +5,14 @@ use Rattle.history.specs.Logs.{turns_of}
 use Rattle.history.proofs.Traces.{Sofar, noted, sofar_history, all_made, no_room}
 use Rattle.history.proofs.replays.replay.Goals as goal
 
-pub returns-then-not-make-room : goal.returns-then-not-make-room
-returns-then-not-make-room g c =
+pub returns-then-not-make_room : goal.returns-then-not-make_room
+returns-then-not-make_room g c =
     let p = places_of c.loop-call.sheet in
     let norm = both (g.M.Norm.percentages c.args.norm.now) (g.M.SpecialNorm.special c.args.norm.now) in
     record {
       law = no_room g.E.Effect.means norm p c.args.calls.now c.args.log.now c.begin.new.self c.begin.ensures.grown c.loop-call.sheet.room.2
-          c.loop-call.call-index c.loop-call.log c.make-room.new.self c.make-room.result (held c.loop-call.sheet)
-          c.loop-call.invariant.1 c.loop-call-test.true c.make-room.ensures c.if-not-make-room.true;
+          c.loop-call.call-index c.loop-call.log c.make_room.new.self c.make_room.result (held c.loop-call.sheet)
+          c.loop-call.invariant.1 c.loop-call-test.true c.make_room.ensures c.if-not-make_room.true;
       places = c.loop-call.invariant.0 ∙ c.open-sheet.ensures.places;
     }
 
@@ -20,7 +20,7 @@ pub note-requires : goal.note-requires
 note-requires g c =
     let s = c.perform-outcome.new.sheet in
     record {
-      room = c.make-room.ensures.room c.if-not-make-room.false;
+      room = c.make_room.ensures.room c.if-not-make_room.false;
       few = omega (arith, ap length c.records-in-loop-call.ensures, s.room, s.records.ok.0);
     }
 
@@ -36,9 +36,9 @@ loop-call-preserved g c =
     let past = sofar_history o norm p c.args.calls.now c.begin.new.self c.loop-call.sheet.room.2 c.loop-call.call-index c.loop-call.log b c.loop-call.invariant.1 in (
       c.perform-outcome.ensures.places ∙ c.loop-call.invariant.0,
       subst (λ p. Sofar o norm p c.args.calls.now c.begin.new.self (c.loop-call.call-index + 1) c.note.new.self (held s)) same
-          (noted o norm p c.args.calls.now c.begin.new.self c.loop-call.call-index c.loop-call.log c.make-room.new.self
-          c.note.new.self c.make-room.result b (held s) c.records-in-loop-call.result.now c.call-item.result c.perform-outcome.result c.loop-call.invariant.1
-          c.make-room.ensures (c.perform-outcome.ensures.law.keeps (take c.loop-call.call-index c.args.calls.now) (map (λ t. t.outcome) (turns_of c.loop-call.log)) past) c.records-in-loop-call.ensures few c.note.ensures c.loop-call-test.true c.call-item.is),
+          (noted o norm p c.args.calls.now c.begin.new.self c.loop-call.call-index c.loop-call.log c.make_room.new.self
+          c.note.new.self c.make_room.result b (held s) c.records-in-loop-call.result.now c.call-item.result c.perform-outcome.result c.loop-call.invariant.1
+          c.make_room.ensures (c.perform-outcome.ensures.law.keeps (take c.loop-call.call-index c.args.calls.now) (map (λ t. t.outcome) (turns_of c.loop-call.log)) past) c.records-in-loop-call.ensures few c.note.ensures c.loop-call-test.true c.call-item.is),
     )
 
 pub returns : goal.returns

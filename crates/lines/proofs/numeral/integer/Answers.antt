@@ -1,8 +1,8 @@
 use Rattle.lines.proofs.Integers.{no_minus, not_zero, negated}
 use Rattle.lines.proofs.numeral.integer.Goals as goal
 
-pub returns-in-default : goal.returns-in-default
-returns-in-default c = no_minus c.args.text.now c.if-text-gt0.true c.if-text-eq45.true (λ n some short e. c.in-default.ensures n short e)
+pub returns-in_default : goal.returns-in_default
+returns-in_default c = no_minus c.args.text.now c.if-text-gt0.true c.if-text-eq45.true (λ n some short e. c.in_default.ensures n short e)
 
 pub returns-then-n-eq0 : goal.returns-then-n-eq0
 returns-then-n-eq0 c =

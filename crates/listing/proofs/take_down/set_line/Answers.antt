@@ -1,8 +1,8 @@
 use Rattle.listing.proofs.Loading.{malformed_line, refused_line, done_line}
 use Rattle.listing.proofs.take_down.set_line.Goals as goal
 
-pub returns-in-default : goal.returns-in-default
-returns-in-default c = malformed_line c.args.tokens.now c.args.column.now c.line-line.result c.line-line.ensures (λ ns t ok e. c.in-default.ensures.reads.0 ns t ok tt e)
+pub returns-in_default : goal.returns-in_default
+returns-in_default c = malformed_line c.args.tokens.now c.args.column.now c.line-line.result c.line-line.ensures (λ ns t ok e. c.in_default.ensures.reads.0 ns t ok tt e)
 
 pub returns-in-Ok : goal.returns-in-Ok
 returns-in-Ok c =

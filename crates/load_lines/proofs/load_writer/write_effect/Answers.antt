@@ -16,7 +16,7 @@ loop-place-preserved g c =
     let fits : SFits w64 c.number.result = search rules in
     onward_more c.loop-place.invariant
     (at_drop_more (λ l. spaced signed_decimal l []) zs c.loop-place.place (pos 0) (omega (arith, c.loop-place-test.true, c.count-place-end.ensures, g.met.E.Written.legible.numbers_count c.args.effect)))
-    (so (ap (λ z. 32 ∷ signed_decimal z) (to_z-of_z w64 c.number.result fits ∙ c.number.ensures)) c.integer-field.ensures)
+    (so (ap (λ z. 32 ∷ signed_decimal z) (to_z-of_z w64 c.number.result fits ∙ c.number.ensures)) c.integer_field.ensures)
 
 pub returns : goal.returns
 returns g c =

@@ -10,5 +10,5 @@ pub returns : goal.returns
 returns g c =
     let x = c.args.load.now in
     let zs = g.E.Written.writes.numbers x.effect in
-    let numbers = so (ap (λ ns. spaced decimal ns []) c.numbers-of.ensures) c.fields.ensures in
-    so (spaced_append decimal (load_numbers x) [] (spaced signed_decimal zs [])) (then numbers c.write-effect.ensures)
+    let numbers = so (ap (λ ns. spaced decimal ns []) c.numbers_of.ensures) c.fields.ensures in
+    so (spaced_append decimal (load_numbers x) [] (spaced signed_decimal zs [])) (then numbers c.write_effect.ensures)

@@ -4,8 +4,8 @@ use Rattle.questions.specs.Items.{weight_of}
 use Rattle.questions.proofs.Readies.{most, weight_most, multiple_within}
 use Rattle.questions.proofs.choice.share_of.Goals as goal
 
-pub overflow-mul-weight : goal.overflow-mul-weight
-overflow-mul-weight g c =
+pub overflow_mul-weight : goal.overflow_mul-weight
+overflow_mul-weight g c =
     let r = c.args.load.now in
     let few : weight_of r * c.args.percent ≤ 200000000 = weight_most g.E.Effect.means r c.args.percent c.requires.bounded c.requires.whole in
     let same : c.args.weight * c.args.percent ≡ weight_of r * c.args.percent = ap (λ (n : ℕ). n * c.args.percent) c.requires.weighed in

@@ -25,9 +25,9 @@ loop-i-preserved g c =
     let after : List Bool → ℕ → Type 0 = λ d n. TakesAtMost items d n × Closed items wanted d × ((k : ℕ) → k < i + 1 → Marked wanted k → Marked d k) × (n ≤ i + 1) in
     elim c.if-wanted-i.branch [
       | then-wanted-i+then-not-done-i w ↦ subst (λ (n : ℕ). after c.if-wanted-i.done n) (sym w.count-is) (subst (λ (d : List Bool). after d (c.loop-i.count + 1)) (sym w.done-is) (
-        w.mark-group.ensures.bound c.loop-i.count inv.0,
-        carried_closed items wanted i c.loop-i.done (omega (arith, c.loop-i-test.true)) w.if-wanted-i.true w.if-not-done-i.true inv.1 w.mark-group.ensures.carried,
-        below_more (λ k. Marked wanted k → Marked w.mark-group.new.done k) _ (λ k h m. w.mark-group.ensures.carried.wider k (inv.2 k h m)) (λ m. w.mark-group.ensures.carried.covered i (omega (arith, c.loop-i-test.true)) (inl refl)),
+        w.mark_group.ensures.bound c.loop-i.count inv.0,
+        carried_closed items wanted i c.loop-i.done (omega (arith, c.loop-i-test.true)) w.if-wanted-i.true w.if-not-done-i.true inv.1 w.mark_group.ensures.carried,
+        below_more (λ k. Marked wanted k → Marked w.mark_group.new.done k) _ (λ k h m. w.mark_group.ensures.carried.wider k (inv.2 k h m)) (λ m. w.mark_group.ensures.carried.covered i (omega (arith, c.loop-i-test.true)) (inl refl)),
         omega (arith, inv.3),
       ))
       | else-wanted-i w ↦ subst (λ (n : ℕ). after c.if-wanted-i.done n) (sym w.count-is) (subst (λ (d : List Bool). after d c.loop-i.count) (sym w.done-is) (

@@ -10,5 +10,5 @@ returns g c p =
     (group_shown g.E.Effect.means p c.args.records.now c.args.j c.index-records-j.result c.requires.second)
     c.if-i-j.false
     c.if-not-wanted-j.false
-    c.is-shared.result
-    c.is-shared.ensures
+    c.is_shared.result
+    c.is_shared.ensures

@@ -6,7 +6,7 @@ use Rattle.questions.proofs.Bounds.{bound_more, bound_offered}
 use Rattle.questions.proofs.Groupmates.{Carrying, carrying_none, carrying_skip, carrying_more, carrying_all, carrying_opens}
 use Rattle.questions.proofs.Readies.{same_length}
 use Rattle.questions.proofs.groups.mark_group.Goals as goal
-use Rattle.questions.proofs.groups.mark_group.Goals.{then-is-fellow, else-is-fellow}
+use Rattle.questions.proofs.groups.mark_group.Goals.{then-is_fellow, else-is_fellow}
 
 pub loop-j-init : goal.loop-j-init
 loop-j-init g c =
@@ -20,13 +20,13 @@ loop-j-preserved g c =
     let same : length items ≡ length c.args.records.now = same_length g.E.Effect.means full c.args.records.now in
     let inv = c.loop-j.invariant in
     let after : List Bool → Type 0 = λ d. Carrying items c.args.wanted.now c.args.i c.args.done.now d (c.loop-j.j + 1) × ((n : ℕ) → TakesAtMost items c.args.done.now n → TakesAtMost items d (n + 1)) in
-    elim c.if-is-fellow.branch [
-      | then-is-fellow w ↦ subst after (sym w.done-is) (
-        carrying_more items c.args.wanted.now c.args.i c.args.done.now c.loop-j.j (omega (arith, c.requires.few, c.loop-j-test.true)) ((c.is-fellow.ensures full).0 w.if-is-fellow.true) inv.0,
-        λ n h. bound_offered (carrying_opens items c.args.wanted.now c.args.i c.args.done.now (omega (arith, c.requires.here)) c.requires.asked c.requires.fresh c.requires.closed c.loop-j.j (omega (arith, c.loop-j-test.true)) (omega (arith, c.requires.few)) ((c.is-fellow.ensures full).0 w.if-is-fellow.true) inv.0) n h (inv.1 n h),
+    elim c.if-is_fellow.branch [
+      | then-is_fellow w ↦ subst after (sym w.done-is) (
+        carrying_more items c.args.wanted.now c.args.i c.args.done.now c.loop-j.j (omega (arith, c.requires.few, c.loop-j-test.true)) ((c.is_fellow.ensures full).0 w.if-is_fellow.true) inv.0,
+        λ n h. bound_offered (carrying_opens items c.args.wanted.now c.args.i c.args.done.now (omega (arith, c.requires.here)) c.requires.asked c.requires.fresh c.requires.closed c.loop-j.j (omega (arith, c.loop-j-test.true)) (omega (arith, c.requires.few)) ((c.is_fellow.ensures full).0 w.if-is_fellow.true) inv.0) n h (inv.1 n h),
       )
-      | else-is-fellow w ↦ subst after (sym w.done-is) (
-        carrying_skip items c.args.wanted.now c.args.i c.args.done.now c.loop-j.j (not_from_Decides c.is-fellow.result (c.is-fellow.ensures full) w.if-is-fellow.false) inv.0,
+      | else-is_fellow w ↦ subst after (sym w.done-is) (
+        carrying_skip items c.args.wanted.now c.args.i c.args.done.now c.loop-j.j (not_from_Decides c.is_fellow.result (c.is_fellow.ensures full) w.if-is_fellow.false) inv.0,
         inv.1,
       )
     ]

@@ -5,8 +5,8 @@ use Rattle.questions.proofs.Readies.{most, multiple_within}
 use Rattle.questions.proofs.Splits.{chosen_most}
 use Rattle.questions.proofs.permanent.at_factor.Goals as goal
 
-pub overflow-mul-factor : goal.overflow-mul-factor
-overflow-mul-factor g c =
+pub overflow_mul-factor : goal.overflow_mul-factor
+overflow_mul-factor g c =
     let few = chosen_most (is_lower c.args.pick) c.requires.lower c.requires.upper in
     omega (arith, few, c.chosen-factor.ensures)
 

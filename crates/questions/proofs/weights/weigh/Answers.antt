@@ -5,19 +5,19 @@ use Rattle.questions.specs.Weights.{WeighsAll}
 use Rattle.questions.proofs.Rules.{weighing_none, weighing_more, weighing_all}
 use Rattle.questions.proofs.weights.weigh.Goals as goal
 
-pub returns-in-err-weights : goal.returns-in-err-weights
-returns-in-err-weights g c =
+pub returns-in_err-weights : goal.returns-in_err-weights
+returns-in_err-weights g c =
     let e = g.E.Effect.means in
     let rs = c.args.records.now in
-    subst (WeighsAll e rs) (sym c.from-residual.ensures)
-    (λ sound. c.in-err-weights.ensures (subst (Ruled e) (sym c.index-records-k.is) (All-get_or (Ruled e) rs c.loop-k.k c.index-records-k.result c.loop-k-test.true sound.ruled)))
+    subst (WeighsAll e rs) (sym c.from_residual.ensures)
+    (λ sound. c.in_err-weights.ensures (subst (Ruled e) (sym c.index-records-k.is) (All-get_or (Ruled e) rs c.loop-k.k c.index-records-k.result c.loop-k-test.true sound.ruled)))
 
 pub loop-k-init : goal.loop-k-init
 loop-k-init g c = weighing_none g.E.Effect.means c.args.records.now _ refl
 
 pub loop-k-preserved : goal.loop-k-preserved
 loop-k-preserved g c =
-    let w = c.in-ok-weights.ensures in
+    let w = c.in_ok-weights.ensures in
     weighing_more g.E.Effect.means c.args.records.now c.loop-k.weights c.loop-k.k _ c.index-records-k.result (omega arith) c.loop-k-test.true c.index-records-k.is w.0 w.1 c.loop-k.invariant
 
 pub returns : goal.returns

@@ -10,16 +10,16 @@ returns g c =
       prepared = record {
         kept = p.kept;
         permanent = p.permanent;
-        long_table = c.turn-to.ensures.tabled;
-        short_table = c.turn-to-2.ensures.tabled;
+        long_table = c.turn_to.ensures.tabled;
+        short_table = c.turn_to-2.ensures.tabled;
         special_table = p.special_table;
-        long_kind = c.turn-to.ensures.kind ∙ p.long_kind;
-        short_kind = c.turn-to-2.ensures.kind ∙ p.short_kind;
+        long_kind = c.turn_to.ensures.kind ∙ p.long_kind;
+        short_kind = c.turn_to-2.ensures.kind ∙ p.short_kind;
         special_kind = p.special_kind;
         special_whole = p.special_whole;
         special_rows = p.special_rows;
       };
       covers = λ one. covers_more g.E.Effect.means norm c.args.question c.args.records.now c.args.nl c.args.nt c.args.best c.pair-found.result c.larger.result (c.requires.covers one)
-          (c.pair-found.ensures norm (at_most_100 norm c.requires.ranged) one c.percents-for-of-long.ensures.agrees c.percents-for-of-short.ensures.agrees)
+          (c.pair-found.ensures norm (at_most_100 norm c.requires.ranged) one c.percents_for-of_long.ensures.agrees c.percents_for-of_short.ensures.agrees)
           c.larger.ensures;
     }

@@ -9,24 +9,24 @@ pub loop-nl-init : goal.loop-nl-init
 loop-nl-init g c =
     let e = g.E.Effect.means in
     let rs = c.args.records.now in
-    let tables = c.tables-of-tables.result in (
-      c.tables-of-tables.ensures,
-      λ one. covers_none e (g.S.Source.grants c.args.source.now) c.args.question rs c.group-count-longs.result (long_limit e c.args.question rs tables.long.wanted c.group-count-longs.result c.group-count-longs.ensures.bound (ml g.met.E.Effect.lawful c.args.question rs tables c.tables-of-tables.ensures)),
+    let tables = c.tables_of-tables.result in (
+      c.tables_of-tables.ensures,
+      λ one. covers_none e (g.S.Source.grants c.args.source.now) c.args.question rs c.group_count-longs.result (long_limit e c.args.question rs tables.long.wanted c.group_count-longs.result c.group_count-longs.ensures.bound (ml g.met.E.Effect.lawful c.args.question rs tables c.tables_of-tables.ensures)),
     )
 
 pub across-best-requires : goal.across-best-requires
 across-best-requires g c =
     let e = g.E.Effect.means in
     let rs = c.args.records.now in
-    let tables = c.tables-of-tables.result in
+    let tables = c.tables_of-tables.result in
     let back : c.loop-nl.nl ≡ c.loop-nl.nl - 1 + 1 = omega (arith, c.loop-nl-test.true) in
     record {
       ranged = c.requires.ranged;
       prepared = c.loop-nl.invariant.0;
       weighed = c.requires.weighed;
-      longs = omega (arith, c.loop-nl.auto.nl, c.group-count-longs.ensures.few);
-      few = c.group-count-shorts.ensures.few;
-      shorts = short_limit e c.args.question rs tables.short.wanted c.group-count-shorts.result c.group-count-shorts.ensures.bound (mt g.met.E.Effect.lawful c.args.question rs tables c.tables-of-tables.ensures);
+      longs = omega (arith, c.loop-nl.auto.nl, c.group_count-longs.ensures.few);
+      few = c.group_count-shorts.ensures.few;
+      shorts = short_limit e c.args.question rs tables.short.wanted c.group_count-shorts.result c.group_count-shorts.ensures.bound (mt g.met.E.Effect.lawful c.args.question rs tables c.tables_of-tables.ensures);
       covers = λ one. subst (λ (n : ℕ). Covers e (g.S.Source.grants c.args.source.now) c.args.question rs (Since n 0) c.loop-nl.best) back (c.loop-nl.invariant.1 one);
     }
 

@@ -9,9 +9,9 @@ returns g c =
     let n = c.args.norm.now in
     let norm = both (g.M.Norm.percentages n) (g.M.SpecialNorm.special n) in
     record {
-      basic = c.worst-basic.result;
-      special = c.worst-special.result;
-      basic_asked = c.worst-basic.ensures;
-      special_asked = c.worst-special.ensures;
-      written = subst (λ rs. Fitted (report_text g.E.Written.writes c.args.names norm rs c.worst-basic.result c.worst-special.result) c.args.out.now c.write-whole.result c.write-whole.new.out) c.records.ensures c.write-whole.ensures;
+      basic = c.worst_basic.result;
+      special = c.worst_special.result;
+      basic_asked = c.worst_basic.ensures;
+      special_asked = c.worst_special.ensures;
+      written = subst (λ rs. Fitted (report_text g.E.Written.writes c.args.names norm rs c.worst_basic.result c.worst_special.result) c.args.out.now c.write_whole.result c.write_whole.new.out) c.records.ensures c.write_whole.ensures;
     }

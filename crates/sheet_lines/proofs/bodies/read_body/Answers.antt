@@ -3,19 +3,19 @@ use Rattle.lines.proofs.Sequences.{no_first, no_second, both, line}
 use Rattle.sheet_lines.proofs.BodyForm.{body, body_form}
 use Rattle.sheet_lines.proofs.bodies.read_body.Goals as goal
 
-pub returns-in-err-number : goal.returns-in-err-number
-returns-in-err-number g c =
+pub returns-in_err-number : goal.returns-in_err-number
+returns-in_err-number g c =
     let w = g.E.Written.writes in
-    let none = no_first (body w) c.args.tokens.now c.number.new.tokens c.in-err-number.ensures in
-    rw c.from-residual.ensures (line (body_form w g.met.E.Written.legible) c.args.tokens.now c.number.new.tokens None none)
+    let none = no_first (body w) c.args.tokens.now c.number.new.tokens c.in_err-number.ensures in
+    rw c.from_residual.ensures (line (body_form w g.met.E.Written.legible) c.args.tokens.now c.number.new.tokens None none)
 
-pub returns-in-err-load : goal.returns-in-err-load
-returns-in-err-load g c =
+pub returns-in_err-load : goal.returns-in_err-load
+returns-in_err-load g c =
     let w = g.E.Written.writes in
-    let none = no_second (body w) c.args.tokens.now c.number.new.tokens c.load-line.new.tokens c.in-ok-number.number c.in-ok-number.ensures c.in-err-load.ensures in
-    rw c.from-residual-in-err-load.ensures (line (body_form w g.met.E.Written.legible) c.args.tokens.now c.load-line.new.tokens None none)
+    let none = no_second (body w) c.args.tokens.now c.number.new.tokens c.load_line.new.tokens c.in_ok-number.number c.in_ok-number.ensures c.in_err-load.ensures in
+    rw c.from_residual-in_err-load.ensures (line (body_form w g.met.E.Written.legible) c.args.tokens.now c.load_line.new.tokens None none)
 
 pub returns : goal.returns
 returns g c =
     let w = g.E.Written.writes in
-    line (body_form w g.met.E.Written.legible) _ _ _ (both (body w) c.args.tokens.now c.number.new.tokens c.load-line.new.tokens c.in-ok-number.number c.in-ok-load.load c.in-ok-number.ensures c.in-ok-load.ensures)
+    line (body_form w g.met.E.Written.legible) _ _ _ (both (body w) c.args.tokens.now c.number.new.tokens c.load_line.new.tokens c.in_ok-number.number c.in_ok-load.load c.in_ok-number.ensures c.in_ok-load.ensures)

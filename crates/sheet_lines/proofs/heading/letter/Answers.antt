@@ -2,8 +2,8 @@ use Rattle.lines.proofs.Spellings.{spelt, no_text}
 use Rattle.sheet_lines.proofs.HeadingForm.{kind_spelling}
 use Rattle.sheet_lines.proofs.heading.letter.Goals as goal
 
-pub returns-in-err-text : goal.returns-in-err-text
-returns-in-err-text c = rw c.from-residual.ensures (no_text (kind_spelling c.args.kind) c.args.blank c.args.tokens.now c.field-text.new.tokens c.in-err-text.ensures)
+pub returns-in_err-text : goal.returns-in_err-text
+returns-in_err-text c = rw c.from_residual.ensures (no_text (kind_spelling c.args.kind) c.args.blank c.args.tokens.now c.field_text.new.tokens c.in_err-text.ensures)
 
 pub returns : goal.returns
-returns c = spelt (kind_spelling c.args.kind) c.args.blank c.args.tokens.now c.field-text.new.tokens _ c.is-letter.result c.in-ok-text.ensures c.is-letter.ensures
+returns c = spelt (kind_spelling c.args.kind) c.args.blank c.args.tokens.now c.field_text.new.tokens _ c.is_letter.result c.in_ok-text.ensures c.is_letter.ensures

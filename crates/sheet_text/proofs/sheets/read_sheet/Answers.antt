@@ -7,27 +7,27 @@ use Rattle.sheet_text.proofs.Blocks.{handed_on}
 use Rattle.sheet_text.proofs.Wholes.{after_counts, sheet_read}
 use Rattle.sheet_text.proofs.sheets.read_sheet.Goals as goal
 
-pub returns-in-default : goal.returns-in-default
-returns-in-default g c =
+pub returns-in_default : goal.returns-in_default
+returns-in_default g c =
     let o = g.E.Effect.means in
     let w = g.E.Written.writes in
     let p = places_in c.args.places (vec_capacity c.args.memory) in
     let s = c.args.tokens.now in
-    let f = c.reading-fault.result in
-    let is = c.reading-fault.ensures ∙ ap (misread Header) c.line-line.ensures in
+    let f = c.reading_fault.result in
+    let is = c.reading_fault.ensures ∙ ap (misread Header) c.line-line.ensures in
     sheet_read o w p g.met.E.Written.legible (line_at s) (rest s) (Err f) tt
-    (subst (λ x. SheetText o w p (line_at s) (rest s) (Err x)) (sym is) (no_counts (λ n t ok e. c.in-default.ensures.reads.0 n t ok tt e)))
+    (subst (λ x. SheetText o w p (line_at s) (rest s) (Err x)) (sym is) (no_counts (λ n t ok e. c.in_default.ensures.reads.0 n t ok tt e)))
 
-pub returns-in-err-read-bodies : goal.returns-in-err-read-bodies
-returns-in-err-read-bodies g c =
+pub returns-in_err-read_bodies : goal.returns-in_err-read_bodies
+returns-in_err-read_bodies g c =
     let o = g.E.Effect.means in
     let w = g.E.Written.writes in
     let p = places_in c.args.places (vec_capacity c.args.memory) in
     let s = c.args.tokens.now in
-    let f = c.in-err-read-bodies.field-0.0 in
-    subst (ReadFrom (SheetText o w p (line_at s) (rest s)) (TextOf w (rest s)) p) (handed_on c.from-residual.result f c.from-residual.ensures.1)
+    let f = c.in_err-read_bodies.field-0.0 in
+    subst (ReadFrom (SheetText o w p (line_at s) (rest s)) (TextOf w (rest s)) p) (handed_on c.from_residual.result f c.from_residual.ensures.1)
     (sheet_read o w p g.met.E.Written.legible (line_at s) (rest s) (Err f) tt
-    (after_counts o w p s c.read-counts.new.tokens c.in-Some.counts (places_of c.open-sheet.result) (held c.open-sheet.result) (Err f) c.in-Some.ensures c.open-sheet.ensures.places c.open-sheet.ensures.blank c.in-err-read-bodies.ensures.bodies))
+    (after_counts o w p s c.read_counts.new.tokens c.in-Some.counts (places_of c.open-sheet.result) (held c.open-sheet.result) (Err f) c.in-Some.ensures c.open-sheet.ensures.places c.open-sheet.ensures.blank c.in_err-read_bodies.ensures.bodies))
 
 pub returns : goal.returns
 returns g c =
@@ -35,7 +35,7 @@ returns g c =
     let w = g.E.Written.writes in
     let p = places_in c.args.places (vec_capacity c.args.memory) in
     let s = c.args.tokens.now in
-    let sheet = c.read-bodies.new.sheet in
-    let bodies = c.in-ok-read-bodies.ensures in
+    let sheet = c.read_bodies.new.sheet in
+    let bodies = c.in_ok-read_bodies.ensures in
     sheet_read o w p g.met.E.Written.legible (line_at s) (rest s) (Ok sheet) (bodies.places ∙ c.open-sheet.ensures.places)
-    (after_counts o w p s c.read-counts.new.tokens c.in-Some.counts (places_of c.open-sheet.result) (held c.open-sheet.result) (Ok (held sheet)) c.in-Some.ensures c.open-sheet.ensures.places c.open-sheet.ensures.blank bodies.bodies)
+    (after_counts o w p s c.read_counts.new.tokens c.in-Some.counts (places_of c.open-sheet.result) (held c.open-sheet.result) (Ok (held sheet)) c.in-Some.ensures c.open-sheet.ensures.places c.open-sheet.ensures.blank bodies.bodies)

@@ -3,10 +3,10 @@ use Rattle.sheet_lines.specs.Bodies.{body_lines}
 use Rattle.writing.proofs.Overlays.{nothing, so}
 use Rattle.sheet_writing.proofs.bodies.write_if_kind.Goals as goal
 
-pub returns-then-is-kind : goal.returns-then-is-kind
-returns-then-is-kind g c =
-    so (ap (λ b. body_lines g.E.Written.writes (cond b (c.args.of.now ∷ []) [])) (sym c.if-is-kind.true ∙ c.is-kind.ensures)) c.write-body.ensures
+pub returns-then-is_kind : goal.returns-then-is_kind
+returns-then-is_kind g c =
+    so (ap (λ b. body_lines g.E.Written.writes (cond b (c.args.of.now ∷ []) [])) (sym c.if-is_kind.true ∙ c.is_kind.ensures)) c.write_body.ensures
 
-pub returns-else-is-kind : goal.returns-else-is-kind
-returns-else-is-kind g c =
-    so (ap (λ b. body_lines g.E.Written.writes (cond b (c.args.of.now ∷ []) [])) (sym c.if-is-kind.false ∙ c.is-kind.ensures)) (nothing _)
+pub returns-else-is_kind : goal.returns-else-is_kind
+returns-else-is_kind g c =
+    so (ap (λ b. body_lines g.E.Written.writes (cond b (c.args.of.now ∷ []) [])) (sym c.if-is_kind.false ∙ c.is_kind.ensures)) (nothing _)

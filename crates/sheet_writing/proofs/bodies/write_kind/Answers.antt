@@ -19,7 +19,7 @@ loop-i-preserved g c =
     let i = c.loop-i.i in
     let within : i < length rs = omega arith in
     let next = at_drop_more (λ l. body_lines w (of_kind k l)) rs i r within ∙ ap (λ x. body_lines w (of_kind k (x ∷ drop (i + 1) rs))) (sym c.index-records-i.is) in
-    onward_more c.loop-i.invariant (next ∙ bodies_append w (cond (is_of_kind k r.kind) (r ∷ []) []) (of_kind k (drop (i + 1) rs))) c.write-if-kind.ensures
+    onward_more c.loop-i.invariant (next ∙ bodies_append w (cond (is_of_kind k r.kind) (r ∷ []) []) (of_kind k (drop (i + 1) rs))) c.write_if_kind.ensures
 
 pub returns : goal.returns
 returns g c = onward_all c.loop-i.invariant (at_drop_all (λ l. body_lines g.E.Written.writes (of_kind c.args.kind l)) c.args.records.now c.loop-i.i (omega arith))

@@ -8,10 +8,10 @@ use Rattle.text_report.specs.TextReports.{FromText}
 use Rattle.text_report.proofs.Entered.{report_from}
 use Rattle.text_report.proofs.reports.report_as.Goals as goal
 
-pub returns-in-err-sheet : goal.returns-in-err-sheet
-returns-in-err-sheet g c =
-    let f = c.in-err-sheet.field-0.0 in
-    FromText.faulty f c.in-err-sheet.ensures.due (sym (handed_on c.from-residual.result f c.from-residual.ensures.1)) refl
+pub returns-in_err-sheet : goal.returns-in_err-sheet
+returns-in_err-sheet g c =
+    let f = c.in_err-sheet.field-0.0 in
+    FromText.faulty f c.in_err-sheet.ensures.due (sym (handed_on c.from_residual.result f c.from_residual.ensures.1)) refl
 
 pub returns-in-Ok : goal.returns-in-Ok
 returns-in-Ok g c =
@@ -19,11 +19,11 @@ returns-in-Ok g c =
     let basic = g.M.Norm.percentages n in
     let special = g.M.SpecialNorm.special n in
     let p = places_in c.args.places (vec_capacity c.args.memory) in
-    let read = c.in-ok-sheet.ensures in
-    let b = held c.in-ok-sheet.sheet in
+    let read = c.in_ok-sheet.ensures in
+    let b = held c.in_ok-sheet.sheet in
     let small : p ≤ 32 = omega arith in
-    let shown = subst (λ q. Reported g.E.Effect.means g.E.Written.writes c.args.names (both basic special) q b c.args.out.now (Ok c.in-Ok.n) c.write-report.new.out) read.places c.in-Ok.ensures in
-    report_from g.E.Effect.means g.E.Written.writes c.args.names basic special p small c.args.text.now b read.due c.args.out.now (Ok c.in-Ok.n) c.write-report.new.out shown (Ok c.in-Ok.n) refl
+    let shown = subst (λ q. Reported g.E.Effect.means g.E.Written.writes c.args.names (both basic special) q b c.args.out.now (Ok c.in-Ok.n) c.write_report.new.out) read.places c.in-Ok.ensures in
+    report_from g.E.Effect.means g.E.Written.writes c.args.names basic special p small c.args.text.now b read.due c.args.out.now (Ok c.in-Ok.n) c.write_report.new.out shown (Ok c.in-Ok.n) refl
 
 pub returns : goal.returns
 returns g c =
@@ -31,8 +31,8 @@ returns g c =
     let basic = g.M.Norm.percentages n in
     let special = g.M.SpecialNorm.special n in
     let p = places_in c.args.places (vec_capacity c.args.memory) in
-    let read = c.in-ok-sheet.ensures in
-    let b = held c.in-ok-sheet.sheet in
+    let read = c.in_ok-sheet.ensures in
+    let b = held c.in_ok-sheet.sheet in
     let small : p ≤ 32 = omega arith in
-    let shown = subst (λ q. Reported g.E.Effect.means g.E.Written.writes c.args.names (both basic special) q b c.args.out.now (Err c.in-Err.refusal) c.write-report.new.out) read.places c.in-Err.ensures in
-    report_from g.E.Effect.means g.E.Written.writes c.args.names basic special p small c.args.text.now b read.due c.args.out.now (Err c.in-Err.refusal) c.write-report.new.out shown (Err c.writing-fault.result) (ap Err c.writing-fault.ensures)
+    let shown = subst (λ q. Reported g.E.Effect.means g.E.Written.writes c.args.names (both basic special) q b c.args.out.now (Err c.in-Err.refusal) c.write_report.new.out) read.places c.in-Err.ensures in
+    report_from g.E.Effect.means g.E.Written.writes c.args.names basic special p small c.args.text.now b read.due c.args.out.now (Err c.in-Err.refusal) c.write_report.new.out shown (Err c.writing_fault.result) (ap Err c.writing_fault.ensures)

@@ -4,5 +4,5 @@ use Rattle.writing.proofs.passes.has_room_for.Goals as goal
 
 pub returns : goal.returns
 returns g c =
-    let lent = sym c.write-to.ensures.lent in
-    measured c.write-to.ensures (record { bytes = refl; start = refl; room = refl; mode = refl }) (search rules)
+    let lent = sym c.write_to.ensures.lent in
+    measured c.write_to.ensures (record { bytes = refl; start = refl; room = refl; mode = refl }) (search rules)

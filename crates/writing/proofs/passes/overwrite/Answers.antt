@@ -4,5 +4,5 @@ use Rattle.writing.proofs.passes.overwrite.Goals as goal
 
 pub returns : goal.returns
 returns g c =
-    let lent = sym c.write-to.ensures.lent in
-    overwritten c.write-to.ensures (record { bytes = refl; start = refl; room = refl; mode = refl }) (search rules)
+    let lent = sym c.write_to.ensures.lent in
+    overwritten c.write_to.ensures (record { bytes = refl; start = refl; room = refl; mode = refl }) (search rules)

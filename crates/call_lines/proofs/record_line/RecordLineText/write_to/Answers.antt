@@ -7,4 +7,4 @@ pub returns : goal.returns
 returns g c =
     let r = c.args.self.now.0 in
     so (ap (λ l. decimal r.number ++ (32 ∷ (l ∷ (load_text g.E.Written.writes r.load [] ++ 10 ∷ [])))) c.letter.ensures)
-    (then c.number.ensures (then c.put.ensures (then c.put-2.ensures (then c.write-load.ensures c.put-3.ensures))))
+    (then c.number.ensures (then c.put.ensures (then c.put-2.ensures (then c.write_load.ensures c.put-3.ensures))))

@@ -2,20 +2,20 @@ use Rattle.std.proofs.Common.{sym, refl, ◌∙◌, arith}
 use Rattle.lines.proofs.Readings.{flags_agree, flags_differ, reads_text, reads_empty, reads_no_field, reads_text_apart}
 use Rattle.lines.proofs.token.Tokens.field_text.Goals as goal
 
-pub returns-then-at-blank-blank : goal.returns-then-at-blank-blank
-returns-then-at-blank-blank c =
+pub returns-then-at_blank-blank : goal.returns-then-at_blank-blank
+returns-then-at_blank-blank c =
     reads_text_apart c.args.blank c.args.self.now c.args.self.now
-    (λ same. flags_differ c.at-blank.result c.args.blank c.if-at-blank-blank.true (c.at-blank.ensures ∙ same)) refl
+    (λ same. flags_differ c.at_blank.result c.args.blank c.if-at_blank-blank.true (c.at_blank.ensures ∙ same)) refl
 
-pub returns-in-err-text : goal.returns-in-err-text
-returns-in-err-text c =
-    rw c.from-residual.ensures (reads_no_field c.args.blank c.args.self.now c.token-text.new.self c.in-err-text.ensures)
+pub returns-in_err-text : goal.returns-in_err-text
+returns-in_err-text c =
+    rw c.from_residual.ensures (reads_no_field c.args.blank c.args.self.now c.token_text.new.self c.in_err-text.ensures)
 
 pub returns-then-text-eq0 : goal.returns-then-text-eq0
 returns-then-text-eq0 c =
-    reads_empty c.args.blank c.args.self.now c.token-text.new.self _ c.in-ok-text.ensures c.if-text-eq0.true
+    reads_empty c.args.blank c.args.self.now c.token_text.new.self _ c.in_ok-text.ensures c.if-text-eq0.true
 
 pub returns : goal.returns
 returns c =
-    let lead = sym c.at-blank.ensures ∙ flags_agree c.at-blank.result c.args.blank c.if-at-blank-blank.false in
-    reads_text c.args.blank c.args.self.now c.token-text.new.self _ lead c.in-ok-text.ensures (omega arith)
+    let lead = sym c.at_blank.ensures ∙ flags_agree c.at_blank.result c.args.blank c.if-at_blank-blank.false in
+    reads_text c.args.blank c.args.self.now c.token_text.new.self _ lead c.in_ok-text.ensures (omega arith)

@@ -15,8 +15,8 @@ returns-in-1 g c =
     let b = c.requires.tabled.built c.args.percents c.requires.built in
     answers g.E.Effect.means c.args.self.now.wanted (λ k h m. b.all k (omega (arith, same_length g.E.Effect.means c.args.percents c.args.records.now)) m) b.only c.args.number 1 0 _ (omega arith) (omega arith) (b.best.each c.args.number _ c.requires.rows).leading
 
-pub returns-in-default : goal.returns-in-default
-returns-in-default g c =
-    let h = c.in-default in
+pub returns-in_default : goal.returns-in_default
+returns-in_default g c =
+    let h = c.in_default in
     let b = c.requires.tabled.built c.args.percents c.requires.built in
     answers g.E.Effect.means c.args.self.now.wanted (λ k h m. b.all k (omega (arith, same_length g.E.Effect.means c.args.percents c.args.records.now)) m) b.only c.args.number 1 1 _ (omega arith) (omega arith) (b.best.each c.args.number _ c.requires.rows).both

@@ -8,44 +8,44 @@ use Rattle.sheet.specs.declared.changes.Change.TheVariants.{Enter}
 use Rattle.sheet.proofs.Calls.{found, not_found, not_le, there, enter_due, enter_sound, enter_free, enter_clear}
 use Rattle.sheet.proofs.store.Sheet.enter.Goals as goal
 
-pub returns-in-err-kind : goal.returns-in-err-kind
-returns-in-err-kind g c =
+pub returns-in_err-kind : goal.returns-in_err-kind
+returns-in_err-kind g c =
     let n = c.args.number in
     let b = held c.args.self.now in
-    let out = err_from_is_err_and c.from-residual.result c.from-residual.ensures.1 in
+    let out = err_from_is_err_and c.from_residual.result c.from_residual.ensures.1 in
     record {
       ledger =
           subst (λ r. Performs g.E.Effect.means (places_of c.args.self.now) b (Enter n c.args.letter c.args.load) r b) (sym (out.1 ∙ ap Err out.2))
-          (enter_due g.E.Effect.means n c.args.letter c.args.load b c.as-slice.result.now c.as-slice.ensures.value (places_of c.args.self.now) c.in-err-kind.field-0.0 c.in-err-kind.ensures, refl);
+          (enter_due g.E.Effect.means n c.args.letter c.args.load b c.as_slice.result.now c.as_slice.ensures.value (places_of c.args.self.now) c.in_err-kind.field-0.0 c.in_err-kind.ensures, refl);
       places = refl;
     }
 
-pub returns-then-is-some : goal.returns-then-is-some
-returns-then-is-some g c =
+pub returns-then-is_some : goal.returns-then-is_some
+returns-then-is_some g c =
     let n = c.args.number in
     let b = held c.args.self.now in
-    let at = found c.position.result _ _ (sym c.if-is-some.ensures) c.position.ensures in
+    let at = found c.position.result _ _ (sym c.if-is_some.ensures) c.position.ensures in
     record {
       ledger = (
         (
-          there n c.as-slice-2.result.now b c.as-slice-2.ensures.value at.0 at.1,
-          enter_sound g.E.Effect.means n c.args.letter c.args.load b c.as-slice.result.now c.as-slice.ensures.value (places_of c.args.self.now) c.in-ok-kind.ensures.1,
+          there n c.as_slice-2.result.now b c.as_slice-2.ensures.value at.0 at.1,
+          enter_sound g.E.Effect.means n c.args.letter c.args.load b c.as_slice.result.now c.as_slice.ensures.value (places_of c.args.self.now) c.in_ok-kind.ensures.1,
         ),
         refl,
       );
       places = refl;
     }
 
-pub returns-then-is-full : goal.returns-then-is-full
-returns-then-is-full g c =
+pub returns-then-is_full : goal.returns-then-is_full
+returns-then-is_full g c =
     let n = c.args.number in
     let b = held c.args.self.now in
-    let missing : Missing n b = subst (Missing n) c.as-slice-2.ensures.value (not_found c.position.result _ _ (sym c.if-is-some.ensures) c.position.ensures) in
+    let missing : Missing n b = subst (Missing n) c.as_slice-2.ensures.value (not_found c.position.result _ _ (sym c.if-is_some.ensures) c.position.ensures) in
     record {
       ledger = (
         (
-          c.is-full.ensures.0 c.if-is-full.true,
-          enter_free g.E.Effect.means n c.args.letter c.args.load b c.as-slice.result.now c.as-slice.ensures.value (places_of c.args.self.now) c.in-ok-kind.ensures.1 missing,
+          c.is_full.ensures.0 c.if-is_full.true,
+          enter_free g.E.Effect.means n c.args.letter c.args.load b c.as_slice.result.now c.as_slice.ensures.value (places_of c.args.self.now) c.in_ok-kind.ensures.1 missing,
         ),
         refl,
       );
@@ -56,12 +56,12 @@ pub returns : goal.returns
 returns g c =
     let n = c.args.number in
     let b = held c.args.self.now in
-    let missing : Missing n b = subst (Missing n) c.as-slice-2.ensures.value (not_found c.position.result _ _ (sym c.if-is-some.ensures) c.position.ensures) in
+    let missing : Missing n b = subst (Missing n) c.as_slice-2.ensures.value (not_found c.position.result _ _ (sym c.if-is_some.ensures) c.position.ensures) in
     record {
       ledger = (
-        enter_clear g.E.Effect.means n c.args.letter c.args.load b c.as-slice.result.now c.as-slice.ensures.value (places_of c.args.self.now) c.in-ok-kind.ensures.1 missing
-            (not_le (not_from_Decides _ c.is-full.ensures c.if-is-full.false)),
-        (c.in-ok-kind.kind, c.in-ok-kind.ensures.0, c.append.ensures.records),
+        enter_clear g.E.Effect.means n c.args.letter c.args.load b c.as_slice.result.now c.as_slice.ensures.value (places_of c.args.self.now) c.in_ok-kind.ensures.1 missing
+            (not_le (not_from_Decides _ c.is_full.ensures c.if-is_full.false)),
+        (c.in_ok-kind.kind, c.in_ok-kind.ensures.0, c.append.ensures.records),
       );
       places = c.append.ensures.places;
     }

@@ -7,15 +7,15 @@ pub returns : goal.returns
 returns g c =
     let n = c.args.number in
     let b = held c.args.self.now in
-    let s = c.as-slice.result.now in
-    let same = c.as-slice.ensures.value in
+    let s = c.as_slice.result.now in
+    let same = c.as_slice.ensures.value in
     let at = c.in-Some.ensures in
-    let number = c.number-in.ensures.0 c.if-not-number-in.false in
+    let number = c.number_in.ensures.0 c.if-not-number_in.false in
     let out = struck n s b same c.in-Some.place at in
     record {
       ledger = (
         strike_clear g.E.Effect.means (places_of c.args.self.now) n b number (there n s b same c.in-Some.place at),
-        (out.0, out.1, out.2, out.3, out.4, c.take-out.ensures.records ∙ out.5),
+        (out.0, out.1, out.2, out.3, out.4, c.take_out.ensures.records ∙ out.5),
       );
-      places = c.take-out.ensures.places;
+      places = c.take_out.ensures.places;
     }

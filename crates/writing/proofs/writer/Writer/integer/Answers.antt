@@ -6,7 +6,7 @@ use Rattle.writing.proofs.writer.Writer.integer.Goals.{then-z-lt0, else-z-lt0}
 
 pub returns : goal.returns
 returns c =
-    let size = size_is c.args.z _ c.ranges.z c.unsigned-abs.ensures.value in
+    let size = size_is c.args.z _ c.ranges.z c.unsigned_abs.ensures.value in
     elim c.if-z-lt0.branch [
       | then-z-lt0 w ↦ so (ap (λ n. 45 ∷ decimal n) size ∙ signed_below c.args.z (sign_is c.args.z _ c.ranges.z w.if-z-lt0.true)) (next _ w.put.ensures w.self-is c.number.ensures)
       | else-z-lt0 w ↦ so (ap decimal size ∙ signed_above c.args.z (sign_is c.args.z _ c.ranges.z w.if-z-lt0.false)) (from _ w.self-is c.number.ensures)
