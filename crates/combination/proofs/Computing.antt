@@ -14,8 +14,8 @@ pub weighted_is : {E : Type 0} (o : Operations E) (e : E) (p f w : ℕ) (taken :
 weighted_is o e p f w true r is c hf hw he =
     let most : f * w ≤ 200 * 1000000 = mul-le-mul hf hw in
     let whole : p ≡ f * w = omega arith in
-    c.if-taken refl (multiple_within p (o.reach e) (omega arith) he) ∙ ap (λ n. o.times n e) whole
-weighted_is o e p f w false r is c hf hw he = (c.if-not refl).0
+    c.if_taken refl (multiple_within p (o.reach e) (omega arith) he) ∙ ap (λ n. o.times n e) whole
+weighted_is o e p f w false r is c hf hw he = (c.if_not refl).0
 
 -- what `weighted` promises
 abbrev Weighted : {E : Type 0} → Operations E → E → (factor weight : ℕ) → Bool → E → Type 0

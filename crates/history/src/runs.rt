@@ -17,7 +17,7 @@ use sheet::{Change, Sheet};
 
 // A call that changes the sheet.
 pub(crate) fn change<E: Effect>(sheet: &mut Sheet<E>, call: Change<E>) -> Result<(), Refusal>
-    ensures ledger { Performs means (places_of sheet.old) (held sheet.old) call result (held sheet.new) }
+    ensures ledger { Performs E.means (places_of sheet.old) (held sheet.old) call result (held sheet.new) }
     ensures places { places_of sheet.new ≡ places_of sheet.old }
 {
     match call {

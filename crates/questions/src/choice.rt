@@ -38,20 +38,20 @@ pub(crate) struct PartChoice {
 
 // What a record contributes at a percentage; its weight is its upper factor times its reduction factor.
 fn share_of<E: Effect>(load: &Record<E>, weight: u64, percent: u64) -> E
-    requires bounded { InRange means load.now }
+    requires bounded { InRange E.means load.now }
     requires weighed { weight ≡ weight_of load.now }
     requires whole { percent ≤ 100 }
-    ensures { result ≡ share means load.now percent }
+    ensures { result ≡ share E.means load.now percent }
 {
     load.load.effect.multiple(weight * percent)
 }
 
 // What a record contributes as it is assigned.
 fn contribution<E: Effect>(load: &Record<E>, weight: u64, percents: Percents, role: Assignment) -> E
-    requires bounded { InRange means load.now }
+    requires bounded { InRange E.means load.now }
     requires weighed { weight ≡ weight_of load.now }
     requires whole { Whole percents }
-    ensures { result ≡ worth means (item_of means percents load.now) role }
+    ensures { result ≡ worth E.means (item_of E.means percents load.now) role }
 {
     match role {
         Assignment::Out => E::zero(),
@@ -68,8 +68,8 @@ pub(crate) fn total<E: Effect>(
     percents: Percents,
     choice: &PartChoice,
 ) -> E
-    requires { Ready means percents weights.now records.now }
-    ensures { result ≡ comes means (items_of means percents records.now) (chosen (items_of means percents records.now) choice.now) }
+    requires { Ready E.means percents weights.now records.now }
+    ensures { result ≡ comes E.means (items_of E.means percents records.now) (chosen (items_of E.means percents records.now) choice.now) }
 {
     let mut sum = E::zero();
     for k in (0..records.len()).rev() {

@@ -25,7 +25,7 @@ pub(crate) fn is_fellow<E: Effect>(
     requires few { length records.now ≤ 32 }
     requires first { i < length records.now }
     requires second { j < length records.now }
-    ensures { (p : PercentsOf) → Decides result (Fellow (items_of means p records.now) wanted.now i j) }
+    ensures { (p : PercentsOf) → Decides result (Fellow (items_of E.means p records.now) wanted.now i j) }
 {
     if i == j {
         return true;
@@ -47,9 +47,9 @@ fn mark_group<E: Effect>(
     requires here { i < length records.now }
     requires asked { Marked wanted.now i }
     requires fresh { slice_index_or done.old i false ≡ false }
-    requires closed { Closed (items_of means full records.now) wanted.now done.old }
-    ensures carried { Carried (items_of means full records.now) wanted.now i done.old done.new }
-    ensures bound { (n : ℕ) → TakesAtMost (items_of means full records.now) done.old n → TakesAtMost (items_of means full records.now) done.new (n + 1) }
+    requires closed { Closed (items_of E.means full records.now) wanted.now done.old }
+    ensures carried { Carried (items_of E.means full records.now) wanted.now i done.old done.new }
+    ensures bound { (n : ℕ) → TakesAtMost (items_of E.means full records.now) done.old n → TakesAtMost (items_of E.means full records.now) done.new (n + 1) }
 {
     for j in 0..records.len() {
         if is_fellow(records, wanted, i, j) {
@@ -61,7 +61,7 @@ fn mark_group<E: Effect>(
 // The number of groups of the wanted records: no choice takes more of them.
 pub(crate) fn group_count<E: Effect>(records: &[Record<E>], wanted: &[bool; 32]) -> usize
     requires { length records.now ≤ 32 }
-    ensures bound { TakesAtMost (items_of means full records.now) wanted.now result }
+    ensures bound { TakesAtMost (items_of E.means full records.now) wanted.now result }
     ensures few { result ≤ 32 }
 {
     let mut done = [false; 32];

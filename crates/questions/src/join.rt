@@ -38,8 +38,8 @@ fn place<E: Effect>(
     short: Assignment,
     special: Assignment,
 ) -> Pick
-    requires { InRange means load.now }
-    ensures { result ≡ placed means load.now.kind load.now long short special }
+    requires { InRange E.means load.now }
+    ensures { result ≡ placed E.means load.now.kind load.now long short special }
 {
     match load.kind {
         Kind::Permanent => factor(load),
@@ -56,8 +56,8 @@ pub(crate) fn join<E: Effect>(
     short: &PartChoice,
     special: &PartChoice,
 ) -> [Pick; 32]
-    requires { Kept means records.now }
-    ensures { take (length records.now) result ≡ joined means records.now long.now short.now special.now }
+    requires { Kept E.means records.now }
+    ensures { take (length records.now) result ≡ joined E.means records.now long.now short.now special.now }
 {
     let mut picks = [Pick::Out; 32];
     for k in 0..records.len() {

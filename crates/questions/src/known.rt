@@ -62,7 +62,7 @@ impl Known {
     // No table is built yet.
     pub(crate) fn of<E: Effect>(records: &[Record<E>], kind: Kind) -> Known
         requires { length records.now ≤ 32 }
-        ensures tabled { Tabled means records.now result }
+        ensures tabled { Tabled E.means records.now result }
         ensures kind { result.kind ≡ kind }
     {
         Known {
@@ -75,7 +75,7 @@ impl Known {
 
     // The percentages of the last table, or 100 before the first.
     pub(crate) fn last<E: Effect>(&self, records: &[Record<E>]) -> Percents
-        requires { Tabled means records.now self.now }
+        requires { Tabled E.means records.now self.now }
         ensures { Whole result }
     {
         match self.percents {
@@ -96,10 +96,10 @@ impl Known {
         percents: Percents,
         number: usize,
     )
-        requires ready { Ready means percents weights.now records.now }
-        requires tabled { Tabled means records.now self.old }
+        requires ready { Ready E.means percents weights.now records.now }
+        requires tabled { Tabled E.means records.now self.old }
         requires number { number ≤ 32 }
-        ensures tabled { Tabled means records.now self.new }
+        ensures tabled { Tabled E.means records.now self.new }
         ensures kind { self.new.kind ≡ self.old.kind }
         ensures percents { self.new.percents ≡ Some percents }
         ensures rows { number ≤ self.new.table.limit }
@@ -122,9 +122,9 @@ impl Known {
         number: usize,
     ) -> Option<PartChoice>
         requires rows { number ≤ self.now.table.limit }
-        requires tabled { Tabled means records.now self.now }
+        requires tabled { Tabled E.means records.now self.now }
         requires built { self.now.percents ≡ Some percents }
-        ensures { Answers means (items_of means percents records.now) self.now.wanted number result }
+        ensures { Answers E.means (items_of E.means percents records.now) self.now.wanted number result }
     {
         let row = &self.table.rows[number];
         match number {

@@ -1,6 +1,6 @@
 // The best candidate for one pair of numbers taken.
 ghost use Rattle.std.specs.Prelude.{◌≡◌, ◌≤◌, Some};
-ghost use Rattle.combination.specs.Choices.{specials as special-number};
+ghost use Rattle.combination.specs.Choices.{specials as special_number};
 ghost use Rattle.questions.specs.Engine.{Larger, PairBest, Prepared, Room, Together};
 ghost use Rattle.questions.specs.Items.{Ready, Weighed};
 
@@ -39,7 +39,7 @@ pub(crate) struct Granted {
 
 // How many special loads a question takes.
 fn specials(question: Question) -> usize
-    ensures value { result ≡ special-number question }
+    ensures value { result ≡ special_number question }
     ensures few { result ≤ 1 }
 {
     match question {
@@ -58,10 +58,10 @@ fn together<E: Effect>(
     short: &PartChoice,
     special: &PartChoice,
 ) -> Candidate<E>
-    requires by_long { Ready means granted.long weights.now records.now }
-    requires by_short { Ready means granted.short weights.now records.now }
-    requires room { Room means records.now granted.long granted.short permanent long.now short.now special.now }
-    ensures { Together means records.now granted.long granted.short permanent long.now short.now special.now result }
+    requires by_long { Ready E.means granted.long weights.now records.now }
+    requires by_short { Ready E.means granted.short weights.now records.now }
+    requires room { Room E.means records.now granted.long granted.short permanent long.now short.now special.now }
+    ensures { Together E.means records.now granted.long granted.short permanent long.now short.now special.now result }
 {
     let whole = Percents {
         leading: 100,
@@ -89,13 +89,13 @@ pub(crate) fn pair<E: Effect>(
     nl: usize,
     nt: usize,
 ) -> Option<Candidate<E>>
-    requires prepared { Prepared means records.now tables.now }
+    requires prepared { Prepared E.means records.now tables.now }
     requires weighed { Weighed weights.now records.now }
     requires by_long { tables.now.long.percents ≡ Some granted.long }
     requires by_short { tables.now.short.percents ≡ Some granted.short }
     requires longs { nl ≤ tables.now.long.table.limit }
     requires shorts { nt ≤ tables.now.short.table.limit }
-    ensures { PairBest means question records.now granted.long granted.short nl nt result }
+    ensures { PairBest E.means question records.now granted.long granted.short nl nt result }
 {
     let whole = Percents {
         leading: 100,
@@ -114,7 +114,7 @@ pub(crate) fn larger<E: Effect>(
     a: Option<Candidate<E>>,
     b: Option<Candidate<E>>,
 ) -> Option<Candidate<E>>
-    ensures { Larger means a b result }
+    ensures { Larger E.means a b result }
 {
     match (a, b) {
         (None, _) => b,

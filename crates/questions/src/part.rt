@@ -30,8 +30,8 @@ fn larger<E: Effect>(
     a: Option<PartChoice>,
     b: Option<PartChoice>,
 ) -> Option<PartChoice>
-    requires ready { Ready means rates.now.percents rates.now.weights records.now }
-    ensures { Better means (items_of means rates.now.percents records.now) a b result }
+    requires ready { Ready E.means rates.now.percents rates.now.weights records.now }
+    ensures { Better E.means (items_of E.means rates.now.percents records.now) a b result }
 {
     match (a, b) {
         (None, _) => b,
@@ -57,9 +57,9 @@ pub(crate) fn improved<E: Effect>(
     j: usize,
     role: Assignment,
 ) -> Option<PartChoice>
-    requires ready { Ready means rates.now.percents rates.now.weights records.now }
+    requires ready { Ready E.means rates.now.percents rates.now.weights records.now }
     requires place { j < 32 }
-    ensures { Better means (items_of means rates.now.percents records.now) kept (added j role part) result }
+    ensures { Better E.means (items_of E.means rates.now.percents records.now) kept (added j role part) result }
 {
     larger(records, rates, kept, with_record(part, j, role))
 }

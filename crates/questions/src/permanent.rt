@@ -1,7 +1,7 @@
 // The permanent loads, each by the factor that comes to the most.
 ghost use Rattle.std.specs.Prelude.{◌≡◌, if◌then◌else◌};
 ghost use Rattle.combination.specs.Choices.{is_lower};
-ghost use Rattle.combination.specs.Worst.{permanent as at-factor};
+ghost use Rattle.combination.specs.Worst.{permanent as at_factor};
 ghost use Rattle.questions.specs.Engine.{fixed_best};
 ghost use Rattle.questions.specs.Items.{InRange, Kept};
 ghost use Rattle.questions.specs.Parts.{best_factor, fixed as part_of};
@@ -22,8 +22,8 @@ fn chosen(pick: Pick, lower: u64, upper: u64) -> u64
 
 // A permanent load at the factor of a pick.
 fn at_factor<E: Effect>(load: &Record<E>, pick: Pick) -> E
-    requires { InRange means load.now }
-    ensures { result ≡ at-factor means pick load.now }
+    requires { InRange E.means load.now }
+    ensures { result ≡ at_factor E.means pick load.now }
 {
     let factor = chosen(pick, load.load.lower, load.load.upper);
     load.load.effect.multiple(factor * 1_000_000)
@@ -31,8 +31,8 @@ fn at_factor<E: Effect>(load: &Record<E>, pick: Pick) -> E
 
 // The factor by which a permanent load comes to the most.
 pub(crate) fn factor<E: Effect>(load: &Record<E>) -> Pick
-    requires { InRange means load.now }
-    ensures { result ≡ best_factor means load.now }
+    requires { InRange E.means load.now }
+    ensures { result ≡ best_factor E.means load.now }
 {
     match at_factor(load, Pick::Lower).compare(at_factor(load, Pick::Upper)) {
         Ordering::Less => Pick::Upper,
@@ -43,8 +43,8 @@ pub(crate) fn factor<E: Effect>(load: &Record<E>) -> Pick
 
 // What a record adds if it is permanent.
 fn permanent_part<E: Effect>(load: &Record<E>) -> E
-    requires { InRange means load.now }
-    ensures { result ≡ part_of means load.now.kind (best_factor means load.now) load.now }
+    requires { InRange E.means load.now }
+    ensures { result ≡ part_of E.means load.now.kind (best_factor E.means load.now) load.now }
 {
     match load.kind {
         Kind::Permanent => at_factor(load, factor(load)),
@@ -56,8 +56,8 @@ fn permanent_part<E: Effect>(load: &Record<E>) -> E
 
 // The sum of the permanent loads.
 pub(crate) fn permanent_sum<E: Effect>(records: &[Record<E>]) -> E
-    requires { Kept means records.now }
-    ensures { result ≡ fixed_best means records.now }
+    requires { Kept E.means records.now }
+    ensures { result ≡ fixed_best E.means records.now }
 {
     let mut sum = E::zero();
     for k in (0..records.len()).rev() {

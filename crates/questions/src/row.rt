@@ -26,9 +26,9 @@ impl Row {
         rates: &Rates,
         j: usize,
     ) -> Row
-        requires ready { Ready means rates.now.percents rates.now.weights records.now }
+        requires ready { Ready E.means rates.now.percents rates.now.weights records.now }
         requires place { j < 32 }
-        ensures { Stepped means (items_of means rates.now.percents records.now) self.now old.now j result }
+        ensures { Stepped E.means (items_of E.means rates.now.percents records.now) self.now old.now j result }
     {
         let other = Assignment::Other;
         let neither = improved(records, rates, self.neither, old.neither, j, other);

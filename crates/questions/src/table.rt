@@ -60,13 +60,13 @@ impl Table {
 
     // Record j is done too, on top of the choices in `old`, which has one group fewer.
     fn offer<E: Effect>(&mut self, old: &Table, records: &[Record<E>], rates: &Rates, j: usize)
-        requires ready { Ready means rates.now.percents rates.now.weights records.now }
-        requires opens { Opens (items_of means rates.now.percents records.now) old.now.done self.old.done j }
-        requires prior { TableBest means (items_of means rates.now.percents records.now) old.now }
-        requires best { TableBest means (items_of means rates.now.percents records.now) self.old }
+        requires ready { Ready E.means rates.now.percents rates.now.weights records.now }
+        requires opens { Opens (items_of E.means rates.now.percents records.now) old.now.done self.old.done j }
+        requires prior { TableBest E.means (items_of E.means rates.now.percents records.now) old.now }
+        requires best { TableBest E.means (items_of E.means rates.now.percents records.now) self.old }
         requires one { self.old.groups ≡ old.now.groups + 1 }
         requires rows { self.old.limit ≡ old.now.limit }
-        ensures best { TableBest means (items_of means rates.now.percents records.now) self.new }
+        ensures best { TableBest E.means (items_of E.means rates.now.percents records.now) self.new }
         ensures done { self.new.done ≡ slice_set self.old.done j true }
         ensures groups { self.new.groups ≡ self.old.groups }
         ensures limit { self.new.limit ≡ self.old.limit }
@@ -87,15 +87,15 @@ impl Table {
         wanted: &[bool; 32],
         i: usize,
     )
-        requires ready { Ready means rates.now.percents rates.now.weights records.now }
+        requires ready { Ready E.means rates.now.percents rates.now.weights records.now }
         requires here { i < length records.now }
         requires asked { Marked wanted.now i }
         requires fresh { slice_index_or self.old.done i false ≡ false }
-        requires closed { Closed (items_of means rates.now.percents records.now) wanted.now self.old.done }
-        requires best { TableBest means (items_of means rates.now.percents records.now) self.old }
+        requires closed { Closed (items_of E.means rates.now.percents records.now) wanted.now self.old.done }
+        requires best { TableBest E.means (items_of E.means rates.now.percents records.now) self.old }
         requires room { self.old.groups < 32 }
-        ensures best { TableBest means (items_of means rates.now.percents records.now) self.new }
-        ensures carried { Carried (items_of means rates.now.percents records.now) wanted.now i self.old.done self.new.done }
+        ensures best { TableBest E.means (items_of E.means rates.now.percents records.now) self.new }
+        ensures carried { Carried (items_of E.means rates.now.percents records.now) wanted.now i self.old.done self.new.done }
         ensures groups { self.new.groups ≡ self.old.groups + 1 }
         ensures limit { self.new.limit ≡ self.old.limit }
     {
@@ -115,10 +115,10 @@ impl Table {
         wanted: &[bool; 32],
         limit: usize,
     ) -> Table
-        requires ready { Ready means rates.now.percents rates.now.weights records.now }
+        requires ready { Ready E.means rates.now.percents rates.now.weights records.now }
         requires rows { limit ≤ 32 }
         ensures limit { result.limit ≡ limit }
-        ensures best { TableBest means (items_of means rates.now.percents records.now) result }
+        ensures best { TableBest E.means (items_of E.means rates.now.percents records.now) result }
         ensures all { (k : ℕ) → k < length records.now → Marked wanted.now k → Marked result.done k }
         ensures only { (k : ℕ) → Marked result.done k → Marked wanted.now k }
     {

@@ -35,7 +35,7 @@ fn reduction_of<E: Effect>(load: &Record<E>) -> Option<u64>
 
 // The weight of a record; None where a rule is broken.
 fn weight<E: Effect>(load: &Record<E>) -> Option<u64>
-    ensures { Weighs means load.now result }
+    ensures { Weighs E.means load.now result }
 {
     let reach = load.load.effect.reach();
     if reach > 1_000_000_000 || load.load.upper > 200 || load.load.lower > 200 {
@@ -49,7 +49,7 @@ fn weight<E: Effect>(load: &Record<E>) -> Option<u64>
 
 // The weights of all records, in their order; None where a rule is broken.
 pub(crate) fn weigh<E: Effect>(records: &[Record<E>]) -> Option<[u64; 32]>
-    ensures { WeighsAll means records.now result }
+    ensures { WeighsAll E.means records.now result }
 {
     if records.len() > 32 {
         return None;

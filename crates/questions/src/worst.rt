@@ -19,9 +19,9 @@ use norm::Term;
 
 // What is known before any number is tried.
 fn tables_of<E: Effect>(records: &[Record<E>], weights: &[u64; 32]) -> Tables<E>
-    requires kept { Kept means records.now }
+    requires kept { Kept E.means records.now }
     requires weighed { Weighed weights.now records.now }
-    ensures { Prepared means records.now result }
+    ensures { Prepared E.means records.now result }
 {
     let whole = Percents {
         leading: 100,

@@ -51,7 +51,7 @@ fn group_in(kind: Kind, group: u64) -> bool
 }
 
 fn reach_in<E: Effect>(load: &Load<E>) -> bool
-    ensures { Decides result (ReachIn means load.now) }
+    ensures { Decides result (ReachIn E.means load.now) }
 {
     load.effect.reach() <= REACH_LIMIT
 }
@@ -110,7 +110,7 @@ pub(crate) fn checked<E: Effect>(
     letter: char,
     load: &Load<E>,
 ) -> Result<Kind, Refusal>
-    ensures { MatchResult result (λ k. (letter_of k ≡ letter) × Clear (LoadCause means own number letter load.now records.now)) (λ e. Due (LoadCause means own number letter load.now records.now) e) }
+    ensures { MatchResult result (λ k. (letter_of k ≡ letter) × Clear (LoadCause E.means own number letter load.now records.now)) (λ e. Due (LoadCause E.means own number letter load.now records.now) e) }
 {
     if !number_in(number) {
         return Err(Refusal::RecordNumber);

@@ -38,7 +38,7 @@ impl<E: Effect> Sheet<E> {
 
     // Adds a record at the end.
     pub fn enter(&mut self, number: u64, letter: char, load: Load<E>) -> Result<(), Refusal>
-        ensures ledger { Performs means (places_of self.old) (held self.old) (Enter number letter load) result (held self.new) }
+        ensures ledger { Performs E.means (places_of self.old) (held self.old) (Enter number letter load) result (held self.new) }
         ensures places { places_of self.new ≡ places_of self.old }
     {
         let kind = checked(self.records.as_slice(), None, number, letter, &load)?;
@@ -54,7 +54,7 @@ impl<E: Effect> Sheet<E> {
 
     // Replaces all of a record but its number and its place.
     pub fn alter(&mut self, number: u64, letter: char, load: Load<E>) -> Result<(), Refusal>
-        ensures ledger { Performs means (places_of self.old) (held self.old) (Alter number letter load) result (held self.new) }
+        ensures ledger { Performs E.means (places_of self.old) (held self.old) (Alter number letter load) result (held self.new) }
         ensures places { places_of self.new ≡ places_of self.old }
     {
         let kind = checked(self.records.as_slice(), Some(number), number, letter, &load)?;
@@ -67,7 +67,7 @@ impl<E: Effect> Sheet<E> {
 
     // Removes a record; those after it move up.
     pub fn strike(&mut self, number: u64) -> Result<(), Refusal>
-        ensures ledger { Performs means (places_of self.old) (held self.old) (Strike number) result (held self.new) }
+        ensures ledger { Performs E.means (places_of self.old) (held self.old) (Strike number) result (held self.new) }
         ensures places { places_of self.new ≡ places_of self.old }
     {
         if !number_in(number) {
