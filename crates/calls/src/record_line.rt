@@ -53,7 +53,7 @@ fn show_effect<E: Written, W: fmt::Write>(effect: E, f: &mut fmt::Formatter<W>) 
 }
 
 impl<E: Written> fmt::Display for RecordLine<E> {
-    ghost output = { λ x. Some (record_text E-as-Written.writes x.0) };
+    ghost output = { λ x. Some (record_text E.writes x.0) };
 
     fn fmt<W: fmt::Write>(&self, f: &mut fmt::Formatter<W>) -> fmt::Result {
         let load = self.0.load;

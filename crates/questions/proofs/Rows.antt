@@ -1,7 +1,9 @@
 -- The row after one record more is best.
-use Rattle.std.proofs.Common.{◌≡◌, ℕ, ◌-◌, ◌≤◌, Bool, true, ◌⊎◌, List, set, Option, sym, refl, subst, ⊎_elim, arith}
-use Rattle.effect.specs.Laws.{Operations, Laws}
-use Rattle.questions.specs.PartChoices.{taken, leads, seconds, Light}
+use Rattle.std.proofs.Common.{◌≡◌, ℕ, ◌-◌, ◌≤◌, Bool, true, ◌⊎◌, ◌≢◌, List, set, Some, Option, sym, refl, subst, ⊎_elim, inl, arith}
+use Rattle.effect.specs.Laws.{Operations, Laws, AtMost}
+use Rattle.effect.proofs.AtMost.{at_most_trans, not_under}
+use Rattle.std.specs.declared.cmp.Ordering.TheVariants.{Less}
+use Rattle.questions.specs.PartChoices.{comes, chosen, taken, leads, seconds, Light}
 use Rattle.questions.specs.BestParts.{Opens, Tops, Sound, BestFrom, added, Better}
 use Rattle.questions.specs.Rows.{RowBest, Stepped}
 use Rattle.questions.specs.declared.choice.PartChoice.{PartChoice}
@@ -96,3 +98,15 @@ module _ {V : Type 0} {n : Operations V} (laws : Laws n) {items : List (Item V)}
       both_adds Leading t h hl hs = (before.second, prior.second, λ v u. st.both.4.left v (st.both.3.right v u))
       both_adds Second t h hl hs = (before.leading, prior.leading, st.both.4.right)
       both_adds Other t h hl hs = (before.both, prior.both, λ v u. st.both.4.left v (st.both.3.left v (st.both.2.right v u)))
+
+-- the first of two choices is the better one where it does not compare as less
+pub first_better : {V : Type 0} {n : Operations V} → Laws n → (items : List (Item V)) (p q : PartChoice) (a b : Option PartChoice) (v w : V)
+    → a ≡ Some p → b ≡ Some q → v ≡ comes n items (chosen items p) → w ≡ comes n items (chosen items q) → n.order v w ≢ Less → Better n items a b a
+first_better {n} laws items p q a b v w ea eb ev ew h = record {
+  either = inl refl;
+  left = λ qs t. t;
+  right = λ qs t.
+    let under : AtMost n (comes n items qs) (comes n items (chosen items q)) = subst (λ (o : Option PartChoice). Tops n items o qs) eb t in
+    let over : AtMost n (comes n items (chosen items q)) (comes n items (chosen items p)) = not_under laws _ _ (λ l. h (cc)) in
+    subst (λ (o : Option PartChoice). Tops n items o qs) (sym ea) (at_most_trans laws _ _ _ under over);
+}

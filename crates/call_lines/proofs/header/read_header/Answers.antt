@@ -9,4 +9,4 @@ returns-in_err-names c =
     rw c.from_residual.ensures (line header_form c.args.tokens.now c.names_fields.new.tokens None none)
 
 pub returns : goal.returns
-returns c = line header_form _ _ _ (both header c.args.tokens.now c.names_fields.new.tokens c.last_field.new.tokens c.in_ok-names.names c.in_ok-places.places c.in_ok-names.ensures c.in_ok-places.ensures)
+returns c = line header_form _ _ _ (both header c.args.tokens.now c.names_fields.new.tokens c.last_field.new.self c.in_ok-names.names c.in_ok-places.places c.in_ok-names.ensures c.in_ok-places.ensures)

@@ -12,7 +12,7 @@ returns-in_err-line_end g c =
     let w = g.E.Written.writes in
     let few : w.count ≤ 4 = omega (arith, c.count-count.ensures, c.if-count-gt4.false) in
     let q = form.effect_line w g.met.E.Written.legible (lent n) (lent_is n w.count c.count-count.ensures c.if-count-gt4.false) few in
-    rw c.from_residual-in_err-line_end.ensures (no_second q c.args.tokens.now c.integer_fields.new.tokens c.line_end.new.tokens c.integer_fields.new.out c.in_ok-integer_fields.ensures c.in_err-line_end.ensures)
+    rw c.from_residual-in_err-line_end.ensures (no_second q c.args.tokens.now c.integer_fields.new.self c.line_end.new.self c.integer_fields.new.out c.in_ok-integer_fields.ensures c.in_err-line_end.ensures)
 
 pub returns : goal.returns
 returns g c =
@@ -20,5 +20,5 @@ returns g c =
     let w = g.E.Written.writes in
     let few : w.count ≤ 4 = omega (arith, c.count-count.ensures, c.if-count-gt4.false) in
     let q = form.effect_line w g.met.E.Written.legible (lent n) (lent_is n w.count c.count-count.ensures c.if-count-gt4.false) few in
-    subst (λ e. Reads (LegibleEffect w) (effect_end w) Anything c.args.tokens.now (Some e) c.line_end.new.tokens) (sym c.from_numbers.ensures)
-    (both q c.args.tokens.now c.integer_fields.new.tokens c.line_end.new.tokens c.integer_fields.new.out tt c.in_ok-integer_fields.ensures c.in_ok-line_end.ensures)
+    subst (λ e. Reads (LegibleEffect w) (effect_end w) Anything c.args.tokens.now (Some e) c.line_end.new.self) (sym c.from_numbers.ensures)
+    (both q c.args.tokens.now c.integer_fields.new.self c.line_end.new.self c.integer_fields.new.out tt c.in_ok-integer_fields.ensures c.in_ok-line_end.ensures)

@@ -12,8 +12,8 @@ together-requires g c =
     let wt = (p.short_table.built c.args.granted.short c.requires.by_short).whole in
     let s = subst (λ (n : ℕ). Answers g.E.Effect.means (items_of g.E.Effect.means full c.args.records.now) c.args.tables.now.special.wanted n (Some c.in_ok-s.s)) c.specials.ensures.value c.in_ok-s.ensures in
     record {
-      by-long = record { kept = p.kept; weighed = c.requires.weighed; whole = wl };
-      by-short = record { kept = p.kept; weighed = c.requires.weighed; whole = wt };
+      by_long = record { kept = p.kept; weighed = c.requires.weighed; whole = wl };
+      by_short = record { kept = p.kept; weighed = c.requires.weighed; whole = wt };
       room = room g.met.E.Effect.lawful c.args.question c.args.records.now c.args.tables.now p c.args.granted.long c.args.granted.short wl wt c.args.nl c.args.nt c.in_ok-l.l c.in_ok-t.t c.in_ok-s.s c.in_ok-l.ensures c.in_ok-t.ensures s;
     }
 

@@ -35,7 +35,7 @@ returns-in_err-special c =
 
 pub returns-in_err-line_end : goal.returns-in_err-line_end
 returns-in_err-line_end c =
-    let end = c.line_end.new.tokens in
+    let end = c.line_end.new.self in
     let no_special = no_second special c.count-3.new.tokens c.count-4.new.tokens end c.in_ok-special.special c.in_ok-special.ensures c.in_err-line_end.ensures in
     let no_short = no_second short_term c.count-2.new.tokens c.count-3.new.tokens end c.in_ok-short_term.short_term c.in_ok-short_term.ensures no_special in
     let no_long = no_second long_term_counts c.count.new.tokens c.count-2.new.tokens end c.in_ok-long_term.long_term_counts c.in_ok-long_term.ensures no_short in
@@ -44,7 +44,7 @@ returns-in_err-line_end c =
 
 pub returns : goal.returns
 returns c =
-    let end = c.line_end.new.tokens in
+    let end = c.line_end.new.self in
     let specials = both special c.count-3.new.tokens c.count-4.new.tokens end c.in_ok-special.special tt c.in_ok-special.ensures c.in_ok-line_end.ensures in
     let shorts = both short_term c.count-2.new.tokens c.count-3.new.tokens end c.in_ok-short_term.short_term c.in_ok-special.special c.in_ok-short_term.ensures specials in
     let longs = both long_term_counts c.count.new.tokens c.count-2.new.tokens end c.in_ok-long_term.long_term_counts (c.in_ok-short_term.short_term, c.in_ok-special.special) c.in_ok-long_term.ensures shorts in

@@ -10,8 +10,8 @@ returns-in_err-names c =
 
 pub returns-in_err-line_end : goal.returns-in_err-line_end
 returns-in_err-line_end c =
-    let none = no_second names c.args.tokens.now c.names_fields.new.tokens c.line_end.new.tokens c.in_ok-names.names c.in_ok-names.ensures c.in_err-line_end.ensures in
-    rw c.from_residual-in_err-line_end.ensures (line names_line_lem c.args.tokens.now c.line_end.new.tokens None none)
+    let none = no_second names c.args.tokens.now c.names_fields.new.tokens c.line_end.new.self c.in_ok-names.names c.in_ok-names.ensures c.in_err-line_end.ensures in
+    rw c.from_residual-in_err-line_end.ensures (line names_line_lem c.args.tokens.now c.line_end.new.self None none)
 
 pub returns : goal.returns
-returns c = line names_line_lem _ _ _ (both names c.args.tokens.now c.names_fields.new.tokens c.line_end.new.tokens c.in_ok-names.names tt c.in_ok-names.ensures c.in_ok-line_end.ensures)
+returns c = line names_line_lem _ _ _ (both names c.args.tokens.now c.names_fields.new.tokens c.line_end.new.self c.in_ok-names.names tt c.in_ok-names.ensures c.in_ok-line_end.ensures)

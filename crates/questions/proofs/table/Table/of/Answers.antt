@@ -25,7 +25,7 @@ pub loop-i-init : goal.loop-i-init
 loop-i-init g c =
     let items = items_of g.E.Effect.means c.args.rates.now.percents c.args.records.now in
     let start : Table → Type 0 = λ t. TableBest g.E.Effect.means items t × Closed items c.args.wanted.now t.done × ((k : ℕ) → k < 0 → Marked c.args.wanted.now k → Marked t.done k) × ((k : ℕ) → Marked t.done k → Marked c.args.wanted.now k) × (t.groups ≤ 0) × (t.limit ≡ c.args.limit) in
-    subst start (sym c.blank_table.ensures) (
+    subst start (sym c.blank-table.ensures) (
       blank_best g.met.E.Effect.lawful items (omega (arith, c.requires.ready.kept.few, same_length g.E.Effect.means c.args.rates.now.percents c.args.records.now)) c.args.limit c.requires.rows,
       closed_blank items c.args.wanted.now (replicate 32 false) none_done,
       λ k h w. absurd (omega arith),
