@@ -150,5 +150,8 @@ fn a_record_is_listed(rt: HostRuntime) {
     });
     let mut buffer = [0u8; 40];
     assert_eq!(rt; write_whole(&line, &mut buffer), Ok(32));
-    assert_eq!(rt; &buffer[0..32], b"31 T 4 120 0 1 3600 2 -300000 5\n");
+    assert_eq!(rt;
+        &buffer[0..32],
+        b"31 T 4 120 0 1 3600 2 -300000 5\n".as_slice()
+    );
 }

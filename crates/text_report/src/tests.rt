@@ -25,7 +25,7 @@ fn the_report_is_written_and_the_rest_stays(rt: HostRuntime) -> Result<(), Fail>
     let written = report_text(TEXT.as_bytes(), memory(rt.alloc())?, 32, &mut out);
     assert_eq!(rt; written, Ok(84));
     assert_eq!(rt; &out[0..84], REPORT.as_bytes());
-    assert_eq!(rt; &out[84..90], b"xxxxxx");
+    assert_eq!(rt; &out[84..90], b"xxxxxx".as_slice());
     Ok(())
 }
 
@@ -39,7 +39,7 @@ fn a_short_buffer_stays_as_it_was(rt: HostRuntime) -> Result<(), Fail> {
         layer: Layer::Writing,
     };
     assert_eq!(rt; written, Err(fault));
-    assert_eq!(rt; &out[0..83], &[b'x'; 83]);
+    assert_eq!(rt; &out[0..83], [b'x'; 83].as_slice());
     Ok(())
 }
 
@@ -53,6 +53,6 @@ fn too_few_places_refuse_the_fourth_load(rt: HostRuntime) -> Result<(), Fail> {
         layer: Layer::Sheet,
     };
     assert_eq!(rt; written, Err(fault));
-    assert_eq!(rt; &out[0..90], &[b'x'; 90]);
+    assert_eq!(rt; &out[0..90], [b'x'; 90].as_slice());
     Ok(())
 }
