@@ -2,12 +2,10 @@
 use Rattle.std.specs.Prelude.{ℕ, Bool, cond, ◌&&◌, List, [], ◌∷◌, ◌++◌, codes, decimal, ◌==◌}
 use Rattle.effect.specs.Notations.{Notation}
 use Rattle.loads.specs.Letters.{letter_of}
-use Rattle.loads.specs.declared.kinds.Kind.{Kind}
 use Rattle.loads.specs.declared.kinds.Kind.TheVariants.{Permanent, LongTerm, ShortTerm, Special}
 use Rattle.loads.specs.declared.records.Record.{Record}
 use Rattle.norm.specs.Percentages.{Percentages}
 use Rattle.norm.specs.Roles.{role_number}
-use Rattle.norm.specs.declared.roles.Role.{Role}
 use Rattle.norm.specs.declared.roles.Role.TheVariants.{Leading, Second, Other}
 use Rattle.norm.specs.declared.terms.Term.TheVariants.{Long, Short}
 use Rattle.combination.specs.Choices.{Line, lines, is_of_kind, is_lower, is_taken, role, taken}

@@ -14,7 +14,7 @@ use Rattle.lines.specs.declared.token.Tokens.{Tokens}
 use Rattle.lines.proofs.Lasts.{last_field_form}
 use Rattle.lines.proofs.Sequences.{Form, Sequence, Wrapping, both, form, line_end, no_second, wrapped_form}
 use Rattle.lines.proofs.Spellings.{field_form}
-use Rattle.call_lines.specs.Calls.{Legible, OfChangeName, OfName, arguments_end, call_line, change_end, change_name, name_of}
+use Rattle.call_lines.specs.Calls.{Legible, OfChangeName, OfName, arguments_end, call_line, change_end, name_of}
 use Rattle.load_lines.specs.Loads.{load_end}
 use Rattle.load_lines.proofs.LoadForm.{load_longer}
 use Rattle.call_lines.specs.Entries.{LegibleEntry, entry_end}

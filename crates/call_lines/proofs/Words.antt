@@ -1,6 +1,6 @@
 -- The words of calls are fields, and no two are alike.
 -- Assumes nothing.
-use Rattle.std.proofs.Common.{◌≡◌, ℕ, cond, eqb, List, get_or, sym, refl, ap, ◌∙◌, arith}
+use Rattle.std.proofs.Common.{◌≡◌, ℕ, cond, eqb, get_or, sym, refl, ap, ◌∙◌, arith}
 use Rattle.combination.specs.declared.questions.Question.TheVariants.{Basic, WithSpecial}
 use Rattle.lines.specs.Reading.{Anything, FieldText}
 use Rattle.lines.proofs.Spellings.{Spelling}

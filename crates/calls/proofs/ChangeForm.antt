@@ -1,6 +1,6 @@
 -- The line of a change as a name and then its arguments.
 -- Assumes nothing.
-use Rattle.std.proofs.Common.{◌≡◌, ℕ, ◌<◌, ◌≤◌, false, List, ◌∷◌, ◌++◌, length, Some, None, decimal, Option, refl, ap, arith, length-append}
+use Rattle.std.proofs.Common.{◌≡◌, ℕ, ◌<◌, false, List, ◌∷◌, ◌++◌, length, Some, None, decimal, Option, refl, ap, arith, length-append}
 use Rattle.std.specs.Fmt.{signed_decimal}
 use Rattle.effect.specs.Notations.{Notation, NotationLaws}
 use Rattle.loads.specs.declared.records.Load.{Load}

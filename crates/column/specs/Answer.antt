@@ -1,5 +1,5 @@
 -- What a column answers, and how it changes.
-use Rattle.std.specs.Prelude.{◌≡◌, ℕ, ◌-◌, ◌<◌, ◌≤◌, true, List, set, Ok, Err, Result, ◌≢◌, slice_set}
+use Rattle.std.specs.Prelude.{◌≡◌, ℕ, ◌-◌, ◌<◌, ◌≤◌, true, List, Ok, Err, Result, ◌≢◌, slice_set}
 use Rattle.refusals.specs.declared.Refusal.{Refusal}
 use Rattle.refusals.specs.declared.Refusal.TheVariants.{ColumnValue}
 use Rattle.column.specs.Loads.{Numbered, storey_at, is_set, InRange, set_count, full_load, reduced_load}

@@ -1,5 +1,5 @@
 -- What the inner functions compute is what the definitions say.
-use Rattle.std.proofs.Common.{◌≡◌, ℕ, ◌-◌, ◌*◌, ◌^◌, ◌≤◌, min, Bool, true, false, cond, List, [], ◌∷◌, sym, refl, ap, ◌∙◌, subst, ap₂, mul_assoc, mul-le-mul, arith, lit≤}
+use Rattle.std.proofs.Common.{◌≡◌, ℕ, ◌-◌, ◌*◌, ◌^◌, ◌≤◌, min, Bool, true, false, cond, sym, refl, ap, ◌∙◌, subst, ap₂, mul_assoc, mul-le-mul, arith, lit≤}
 use Rattle.effect.specs.Laws.{Operations}
 use Rattle.effect.specs.Sums.{Counted}
 use Rattle.loads.specs.declared.records.Record.{Record}

@@ -1,5 +1,5 @@
 -- The sum of the contributions by a table of percentages is what the choice comes to.
-use Rattle.std.proofs.Common.{◌≡◌, ℕ, ◌+◌, ◌*◌, ◌<◌, ◌≤◌, min, Bool, true, false, cond, eqb, List, [], ◌∷◌, length, get_or, take, sym, refl, ap, ◌∙◌, subst, ap₂, arith, take_all}
+use Rattle.std.proofs.Common.{◌≡◌, ℕ, ◌+◌, ◌*◌, ◌<◌, ◌≤◌, min, Bool, true, false, cond, eqb, List, [], ◌∷◌, length, get_or, take, sym, refl, ap, ◌∙◌, ap₂, arith, take_all}
 use lib.ListN.{length-map}
 use Rattle.effect.specs.Laws.{Operations, Laws, limit}
 use Rattle.effect.specs.Sums.{total}

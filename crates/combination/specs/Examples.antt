@@ -1,5 +1,5 @@
 -- The same loads, entered in two ways.
-use Rattle.std.specs.Prelude.{◌≡◌, ℕ, List, [], ◌∷◌, ℤ, pos, ◌≢◌}
+use Rattle.std.specs.Prelude.{ℕ, List, [], ◌∷◌, ℤ, pos, ◌≢◌}
 use Rattle.std.specs.List.{AllByRecursion as All}
 use Rattle.effect.specs.Models.{forces, of_force}
 use Rattle.effect.specs.declared.newtons.N.{N}
@@ -9,7 +9,7 @@ use Rattle.norm.specs.declared.roles.Role.TheVariants.{Leading, Second}
 use Rattle.combination.specs.Choices.{Admissible}
 use Rattle.combination.specs.Loads.{SameDesignLoads}
 use Rattle.combination.specs.Sound.{Sound}
-use Rattle.combination.specs.declared.picks.Pick.TheVariants.{Upper, Lower, Out, As}
+use Rattle.combination.specs.declared.picks.Pick.TheVariants.{Upper, Out, As}
 use Rattle.combination.specs.declared.questions.Question.TheVariants.{Basic}
 
 abbrev pub permanent_load : (number : ℕ) (force : ℤ) (upper lower : ℕ) → Record N

@@ -4,15 +4,15 @@ use Rattle.std.proofs.Common.{ℕ, ◌≤◌, List, [], ◌∷◌, ◌++◌, map
 use Rattle.std.specs.List.{AllByRecursion as All}
 use Rattle.std.proofs.ByRecursion.{All-push}
 use Rattle.effect.specs.Laws.{Operations, Laws}
-use Rattle.norm.specs.Percentages.{Percentages, Ranged}
+use Rattle.norm.specs.Percentages.{Ranged}
 use Rattle.loads.specs.declared.records.Record.{Record}
 use Rattle.combination.specs.declared.questions.Question.{Question}
 use Rattle.combination.specs.declared.questions.Question.TheVariants.{Basic, WithSpecial}
 use Rattle.history.specs.BasicLaw.{PerformedBasic, call_of}
 use Rattle.history.specs.declared.calls.BasicCall.{BasicCall}
 use Rattle.history.specs.declared.calls.BasicCall.TheVariants.{Change as BasicChange, Basic as BasicAsk}
-use Rattle.history.specs.History.{NormAnswers, both, asked, Step, Run, History}
-use Rattle.history.specs.Law.{Asking, Alike, BothAsked, Keeps, KeptFrom, Law, Performed}
+use Rattle.history.specs.History.{NormAnswers, asked, Step, Run, History}
+use Rattle.history.specs.Law.{Asking, BothAsked, Keeps, KeptFrom, Law, Performed}
 use Rattle.history.specs.Steps.{Stepped}
 use Rattle.history.specs.declared.calls.Call.{Call}
 use Rattle.history.specs.declared.calls.Call.TheVariants.{Change as Changing, Ask}

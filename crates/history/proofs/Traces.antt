@@ -1,5 +1,5 @@
 -- A trace of turns: it begins blank, grows by a turn, and is a history.
-use Rattle.std.proofs.Common.{◌≡◌, ℕ, ◌+◌, ◌*◌, ◌<◌, ◌≤◌, Bool, false, List, [], ◌∷◌, ◌++◌, map, length, get_or, take, drop, vec_len, vec_capacity, sym, refl, ap, ◌∙◌, subst, arith, length-append, take_all}
+use Rattle.std.proofs.Common.{◌≡◌, ℕ, ◌+◌, ◌*◌, ◌<◌, ◌≤◌, Bool, false, List, [], ◌∷◌, ◌++◌, map, length, get_or, take, drop, vec_capacity, sym, ap, ◌∙◌, subst, arith, length-append, take_all}
 use lib.Seq.{take-append-le, drop-append-le}
 use Rattle.std.proofs.lemmas.List.{drop_all, take_more}
 use Rattle.effect.specs.Laws.{Operations}

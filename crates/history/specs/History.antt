@@ -1,5 +1,5 @@
 -- The history of a sheet: calls in any number and order, what each came to, and the records that they leave.
-use Rattle.std.specs.Prelude.{◌≡◌, ℕ, ◌≤◌, List, [], ◌∷◌, ◌++◌}
+use Rattle.std.specs.Prelude.{◌≡◌, ℕ, ◌≤◌, List, [], ◌∷◌}
 use Rattle.effect.specs.Laws.{Operations}
 use Rattle.norm.specs.Percentages.{Percentages}
 use Rattle.refusals.specs.declared.Refusal.TheVariants.{NoSpecialLoad}

@@ -1,5 +1,5 @@
 -- What is done with a log.
-use Rattle.std.specs.Prelude.{◌≡◌, ℕ, ◌+◌, ◌≤◌, Bool, true, false, List, [], ◌∷◌, ◌++◌, length, vec_items, vec_len, vec_capacity}
+use Rattle.std.specs.Prelude.{◌≡◌, ◌+◌, ◌≤◌, Bool, true, false, List, [], ◌∷◌, ◌++◌, length, vec_items, vec_len, vec_capacity}
 use Rattle.loads.specs.declared.records.Record.{Record}
 use Rattle.history.specs.declared.logs.Log.{Log}
 use Rattle.history.specs.declared.logs.Turn.{Turn}

@@ -6,7 +6,7 @@ use Rattle.std.specs.List.{AllByRecursion as All}
 use Rattle.effect.specs.Notations.{Notation, NotationLaws}
 use Rattle.loads.specs.declared.records.Load.{Load}
 use Rattle.lines.specs.Numeral.{Short, ShortZ}
-use Rattle.lines.specs.Reading.{Anything, Ends, EndsAfter, Row, before, byte, spaced}
+use Rattle.lines.specs.Reading.{Anything, EndsAfter, Row, before, byte, spaced}
 use Rattle.lines.proofs.Integers.{signed_token}
 use Rattle.lines.proofs.Lengths.{spaced_longer}
 use Rattle.lines.proofs.Readings.{decimal_token}

@@ -1,6 +1,5 @@
 -- The rules that a record keeps by itself.
-use Rattle.std.specs.Prelude.{◌≡◌, ℕ, ◌≤◌, ◌⊎◌, List, length}
-use Rattle.std.specs.List.{AllByRecursion as All}
+use Rattle.std.specs.Prelude.{◌≡◌, ℕ, ◌≤◌, ◌⊎◌}
 use Rattle.effect.specs.Laws.{Operations}
 use Rattle.reduction.specs.Factor.{Sized}
 use Rattle.loads.specs.declared.kinds.Kind.{Kind}

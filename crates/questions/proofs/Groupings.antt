@@ -1,5 +1,5 @@
 -- No two taken records share a group: in a choice, and in each of its parts.
-use Rattle.std.proofs.Common.{◌≡◌, ℕ, zero, suc, Bool, true, false, cond, T, ◌≢◌, ◌⊎◌, List, [], ◌∷◌, get_or, sym, refl, ap, ◌∙◌, subst, inl, inr, ⊎_elim, arith}
+use Rattle.std.proofs.Common.{◌≡◌, ℕ, zero, suc, Bool, true, false, cond, T, ◌≢◌, List, [], ◌∷◌, get_or, sym, refl, ap, ◌∙◌, subst, inl, inr, ⊎_elim, arith}
 use Rattle.std.proofs.lemmas.Bool.{cases_eq}
 use Rattle.std.specs.List.{AllByRecursion as All}
 use Rattle.effect.specs.Laws.{Operations}
@@ -16,7 +16,6 @@ use Rattle.combination.specs.Lists.{Among, EachTwo}
 use Rattle.questions.specs.Parts.{role_at, part}
 use Rattle.questions.specs.Promises.{OneKind}
 use Rattle.combination.specs.declared.picks.Pick.{Pick}
-use Rattle.combination.specs.declared.picks.Pick.TheVariants as pick
 use Rattle.questions.proofs.Counts.{plain_taken, lone_taken}
 
 of_cond : (b : Bool) → ◌≡◌ {A = ℕ} (cond b 1 0) 1 → T b

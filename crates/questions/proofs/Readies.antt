@@ -4,7 +4,7 @@ use lib.ListN.{length-map}
 use Rattle.std.proofs.ByRecursion.{All-get_or}
 use Rattle.std.proofs.lemmas.List.{get_or-map}
 use Rattle.std.specs.List.{AllByRecursion as All}
-use Rattle.effect.specs.Laws.{Operations, Laws, limit}
+use Rattle.effect.specs.Laws.{Operations, Laws}
 use Rattle.combination.specs.Worst.{factor}
 use Rattle.questions.specs.PartChoices.{Light, Small, group_of, group_at}
 use Rattle.questions.specs.Items.{share, item_of, items_of, weight_of, Reduction, InRange, Weighed, Whole, Ready}

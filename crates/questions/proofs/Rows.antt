@@ -1,5 +1,5 @@
 -- The row after one record more is best.
-use Rattle.std.proofs.Common.{◌≡◌, ℕ, ◌-◌, ◌≤◌, Bool, true, ◌⊎◌, ◌≢◌, List, set, Some, Option, sym, refl, subst, ⊎_elim, inl, arith}
+use Rattle.std.proofs.Common.{◌≡◌, ℕ, ◌-◌, ◌≤◌, Bool, true, ◌≢◌, List, set, Some, Option, sym, refl, subst, ⊎_elim, inl, arith}
 use Rattle.effect.specs.Laws.{Operations, Laws, AtMost}
 use Rattle.effect.proofs.AtMost.{at_most_trans, not_under}
 use Rattle.std.specs.declared.cmp.Ordering.TheVariants.{Less}
@@ -106,7 +106,7 @@ first_better {n} laws items p q a b v w ea eb ev ew h = record {
   either = inl refl;
   left = λ qs t. t;
   right = λ qs t.
-    let under : AtMost n (comes n items qs) (comes n items (chosen items q)) = subst (λ (o : Option PartChoice). Tops n items o qs) eb t in
-    let over : AtMost n (comes n items (chosen items q)) (comes n items (chosen items p)) = not_under laws _ _ (λ l. h (cc)) in
-    subst (λ (o : Option PartChoice). Tops n items o qs) (sym ea) (at_most_trans laws _ _ _ under over);
+      let under : AtMost n (comes n items qs) (comes n items (chosen items q)) = subst (λ (o : Option PartChoice). Tops n items o qs) eb t in
+      let over : AtMost n (comes n items (chosen items q)) (comes n items (chosen items p)) = not_under laws _ _ (λ l. h (cc)) in
+      subst (λ (o : Option PartChoice). Tops n items o qs) (sym ea) (at_most_trans laws _ _ _ under over);
 }

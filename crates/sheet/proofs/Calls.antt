@@ -6,7 +6,6 @@ use Rattle.effect.specs.Laws.{Operations}
 use Rattle.refusals.specs.Numbers.{number_of}
 use Rattle.sheet.specs.Checks.{LoadCause}
 use Rattle.sheet.specs.Ledger.{Due, Clear, Missing, Replaced, Cause}
-use Rattle.sheet.specs.declared.changes.Change.{Change}
 use Rattle.sheet.specs.declared.changes.Change.TheVariants.{Enter, Alter, Strike}
 use Rattle.loads.specs.Rules.{NumberIn}
 use Rattle.loads.specs.declared.records.Load.{Load}

@@ -1,5 +1,5 @@
 -- What the checks of one call say, by themselves.
-use Rattle.std.specs.Prelude.{◌≡◌, ℕ, List, Option, ◌≢◌}
+use Rattle.std.specs.Prelude.{ℕ, List, Option, ◌≢◌}
 use Rattle.effect.specs.Laws.{Operations}
 use Rattle.refusals.specs.declared.Refusal.{Refusal}
 use Rattle.refusals.specs.declared.Refusal.TheVariants.{RecordNumber, KindLetter, LoadFactor, Reduction, Group, Reach, NumberTaken, NumberMissing, SheetFull, NoSpecialLoad, Header, BodyLine, OutputTooLong, ColumnValue}

@@ -1,6 +1,6 @@
 -- The line of a record as a number and then a load.
 -- Assumes nothing.
-use Rattle.std.proofs.Common.{false, List, decimal, refl}
+use Rattle.std.proofs.Common.{false, decimal, refl}
 use Rattle.effect.specs.Notations.{Notation, NotationLaws}
 use Rattle.lines.specs.Numeral.{Short}
 use Rattle.lines.specs.Reading.{Anything, Ends, before}

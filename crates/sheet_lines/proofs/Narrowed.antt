@@ -1,6 +1,6 @@
 -- A reader that takes only some of the values that another reads.
 -- Assumes nothing.
-use Rattle.std.proofs.Common.{◌≡◌, ℕ, List, Some, None, sym, ◌∙◌, subst}
+use Rattle.std.proofs.Common.{ℕ, List, Some, None, sym, ◌∙◌, subst}
 use Rattle.lines.specs.Lexing.{rest}
 use Rattle.lines.specs.Reading.{Reads}
 use Rattle.lines.specs.declared.token.Tokens.{Tokens}

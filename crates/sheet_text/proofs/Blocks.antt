@@ -1,6 +1,6 @@
 -- Lines that are entered one after the other, and blocks of them.
 -- Assumes nothing.
-use Rattle.std.proofs.Common.{◌≡◌, ℕ, ◌+◌, ◌-◌, ◌<◌, ◌≤◌, List, [], ◌∷◌, ◌++◌, length, replicate, IsErrAnd, Ok, Err, Result, sym, refl, ap, ◌∙◌, subst, append_assoc, append-nil, arith}
+use Rattle.std.proofs.Common.{◌≡◌, ℕ, ◌+◌, ◌-◌, ◌<◌, List, [], ◌∷◌, ◌++◌, replicate, IsErrAnd, Ok, Err, Result, sym, ap, ◌∙◌, subst, append_assoc, append-nil, arith}
 use lib.ListN.{replicate-append-replicate}
 use Rattle.std.proofs.lemmas.Result.{err_from_is_err_and}
 use Rattle.effect.specs.Laws.{Operations}

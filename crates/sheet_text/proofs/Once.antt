@@ -1,6 +1,6 @@
 -- One thing only comes of a text.
 -- Assumes nothing.
-use Rattle.std.proofs.Common.{◌≡◌, ℕ, ◌+◌, ◌<◌, List, [], ◌∷◌, ◌++◌, length, Ok, Err, Result, sym, refl, ap, ◌∙◌, subst, ⊎_elim, arith}
+use Rattle.std.proofs.Common.{◌≡◌, ℕ, ◌+◌, List, [], ◌∷◌, ◌++◌, length, Err, Result, sym, refl, ap, ◌∙◌, subst, ⊎_elim, arith}
 use Rattle.std.proofs.lemmas.Bool.{cases_lt}
 use Rattle.effect.specs.Laws.{Operations}
 use Rattle.effect.specs.Notations.{Notation, NotationLaws}
@@ -9,7 +9,7 @@ use Rattle.refusals.specs.declared.Refusal.{Refusal}
 use Rattle.loads.specs.declared.kinds.Kind.{Kind}
 use Rattle.loads.specs.declared.records.Load.{Load}
 use Rattle.loads.specs.declared.records.Record.{Record}
-use Rattle.sheet.specs.Ledger.{Accepted, Changed, Due, Refuses, record_of}
+use Rattle.sheet.specs.Ledger.{Changed, Due, Refuses, record_of}
 use Rattle.sheet.proofs.Causes.{same_kind, same_refusal}
 use Rattle.sheet_lines.specs.Bodies.{LegibleBody, body_line}
 use Rattle.sheet_lines.specs.Heading.{due}

@@ -1,6 +1,6 @@
 -- The whole text of a sheet, part by part.
 -- Assumes nothing.
-use Rattle.std.proofs.Common.{◌≡◌, ℕ, List, [], ◌∷◌, ◌++◌, sym, refl, ap, ◌∙◌, append_assoc}
+use Rattle.std.proofs.Common.{◌≡◌, ℕ, List, [], ◌++◌, sym, refl, ap, ◌∙◌, append_assoc}
 use Rattle.effect.specs.Notations.{Notation}
 use Rattle.effect.specs.declared.names.EffectName.{EffectName}
 use Rattle.effect.specs.declared.names.EffectName.TheVariants.{N, Nm}

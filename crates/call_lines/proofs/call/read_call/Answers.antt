@@ -1,6 +1,5 @@
-use Rattle.std.proofs.Common.{None}
-use Rattle.lines.proofs.Sequences.{no_first, line}
-use Rattle.call_lines.proofs.CallForm.{call, call_form, after_name}
+use Rattle.lines.proofs.Sequences.{line}
+use Rattle.call_lines.proofs.CallForm.{call_form, after_name}
 use Rattle.call_lines.proofs.call.read_call.Goals as goal
 
 pub returns : goal.returns

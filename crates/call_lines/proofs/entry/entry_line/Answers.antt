@@ -1,4 +1,4 @@
-use Rattle.lines.proofs.Sequences.{no_first, no_second, both}
+use Rattle.lines.proofs.Sequences.{no_first, no_second}
 use Rattle.call_lines.proofs.EntryForm as form
 use Rattle.call_lines.proofs.entry.entry_line.Goals as goal
 

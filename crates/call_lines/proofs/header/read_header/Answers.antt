@@ -1,5 +1,5 @@
 use Rattle.std.proofs.Common.{None}
-use Rattle.lines.proofs.Sequences.{no_first, no_second, both, line}
+use Rattle.lines.proofs.Sequences.{no_first, both, line}
 use Rattle.call_lines.proofs.HeaderForm.{header, header_form}
 use Rattle.call_lines.proofs.header.read_header.Goals as goal
 

@@ -1,6 +1,5 @@
-use Rattle.std.proofs.Common.{None}
-use Rattle.lines.proofs.Sequences.{no_first, line}
-use Rattle.calls.proofs.ChangeForm.{change, change_form, after_name}
+use Rattle.lines.proofs.Sequences.{line}
+use Rattle.calls.proofs.ChangeForm.{change_form, after_name}
 use Rattle.calls.proofs.change.read_change.Goals as goal
 
 pub returns : goal.returns

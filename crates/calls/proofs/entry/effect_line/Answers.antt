@@ -1,6 +1,6 @@
-use Rattle.std.proofs.Common.{◌≡◌, ◌≤◌, Some, sym, subst, arith}
+use Rattle.std.proofs.Common.{◌≤◌, Some, sym, subst, arith}
 use Rattle.lines.specs.Reading.{Anything, Reads}
-use Rattle.lines.proofs.Sequences.{no_first, no_second, both}
+use Rattle.lines.proofs.Sequences.{no_second, both}
 use Rattle.calls.specs.Entries.{LegibleEffect, effect_end}
 use Rattle.calls.proofs.EntryForm as form
 use Rattle.calls.proofs.EntryForm.{lent, lent_is}

@@ -1,4 +1,4 @@
-use Rattle.std.proofs.Common.{◌≡◌, arith, rules}
+use Rattle.std.proofs.Common.{rules}
 use Rattle.lines.proofs.Rows.{items}
 use Rattle.calls.proofs.entry.one_byte.Goals as goal
 

@@ -1,4 +1,4 @@
-use Rattle.lines.proofs.Sequences.{no_first, no_second, both}
+use Rattle.lines.proofs.Sequences.{no_second}
 use Rattle.calls.proofs.EntryForm as form
 use Rattle.calls.proofs.entry.start.Goals as goal
 

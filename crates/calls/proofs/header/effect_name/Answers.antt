@@ -1,5 +1,5 @@
 use Rattle.std.proofs.Common.{true}
-use Rattle.lines.proofs.Spellings.{spelt, no_text}
+use Rattle.lines.proofs.Spellings.{spelt}
 use Rattle.calls.proofs.Words.{effect_spelling, effect_spelt}
 use Rattle.calls.proofs.header.effect_name.Goals as goal
 

@@ -1,4 +1,4 @@
-use Rattle.lines.proofs.Sequences.{no_first, no_second, both}
+use Rattle.lines.proofs.Sequences.{no_second}
 use Rattle.calls.proofs.HeaderForm as form
 use Rattle.calls.proofs.header.names.Goals as goal
 

@@ -1,5 +1,5 @@
 use Rattle.std.proofs.Common.{false}
-use Rattle.lines.proofs.Spellings.{spelt, no_text}
+use Rattle.lines.proofs.Spellings.{spelt}
 use Rattle.calls.proofs.Words.{norm_spelling, norm_spelt}
 use Rattle.calls.proofs.header.norm_name.Goals as goal
 

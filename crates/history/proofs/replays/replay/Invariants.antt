@@ -1,4 +1,4 @@
-use Rattle.std.proofs.Common.{◌≡◌, ◌≤◌, min, vec_capacity}
+use Rattle.std.proofs.Common.{◌≡◌}
 use Rattle.sheet.specs.Held.{held, places_of}
 use Rattle.history.specs.History.{both}
 use Rattle.history.proofs.Traces.{Sofar}

@@ -1,4 +1,4 @@
-use Rattle.std.proofs.Common.{[], ◌++◌, decimal, ap, ◌∙◌}
+use Rattle.std.proofs.Common.{[], decimal, ap}
 use Rattle.std.specs.Fmt.{signed_decimal}
 use Rattle.lines.specs.Reading.{spaced}
 use Rattle.lines.proofs.Rows.{spaced_append}

@@ -1,4 +1,4 @@
-use Rattle.lines.proofs.Sequences.{no_first, no_second, both}
+use Rattle.lines.proofs.Sequences.{no_second}
 use Rattle.load_lines.proofs.NamesForm as form
 use Rattle.load_lines.proofs.names.names_fields.Goals as goal
 

@@ -1,5 +1,5 @@
 use Rattle.std.proofs.Common.{false}
-use Rattle.lines.proofs.Spellings.{spelt, no_text}
+use Rattle.lines.proofs.Spellings.{spelt}
 use Rattle.load_lines.proofs.NamesForm.{norm_spelling, norm_spelt}
 use Rattle.load_lines.proofs.names.norm_name.Goals as goal
 

@@ -1,6 +1,6 @@
-use Rattle.std.proofs.Common.{◌≡◌, ◌≤◌, Some, sym, subst, arith}
+use Rattle.std.proofs.Common.{◌≤◌, Some, sym, subst, arith}
 use Rattle.lines.specs.Reading.{Anything, Reads}
-use Rattle.lines.proofs.Sequences.{no_first, no_second, both}
+use Rattle.lines.proofs.Sequences.{no_second, both}
 use Rattle.load_lines.specs.Loads.{LegibleEffect, effect_end}
 use Rattle.load_lines.proofs.LoadForm as form
 use Rattle.load_lines.proofs.LoadForm.{lent, lent_is}

@@ -1,6 +1,6 @@
 use Rattle.std.proofs.Common.{arith}
 use Rattle.sheet_lines.proofs.HeadingForm.{few_short, short_form}
-use Rattle.sheet_lines.proofs.Narrowed.{not_taken, nothing_read, taken}
+use Rattle.sheet_lines.proofs.Narrowed.{not_taken}
 use Rattle.sheet_lines.proofs.heading.few.Goals as goal
 
 pub returns-then-number-gt99 : goal.returns-then-number-gt99

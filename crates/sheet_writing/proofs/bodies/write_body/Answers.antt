@@ -1,4 +1,4 @@
-use Rattle.std.proofs.Common.{[], ◌∷◌, ◌++◌, decimal, ap}
+use Rattle.std.proofs.Common.{[], ◌++◌, decimal, ap}
 use Rattle.writing.proofs.Overlays.{then, so}
 use Rattle.sheet_writing.proofs.KindLines.{load_text_lem}
 use Rattle.sheet_writing.proofs.bodies.write_body.Goals as goal

@@ -1,4 +1,4 @@
-use Rattle.std.proofs.Common.{◌≡◌, ℕ, ◌-◌, ◌<◌, ◌≤◌, true, get_or}
+use Rattle.std.proofs.Common.{◌≡◌, ℕ, ◌<◌, ◌≤◌, true}
 use Rattle.column.specs.Loads.{is_set, storey_at}
 use Rattle.column.specs.declared.storeys.Storey.TheVariants.{Unset}
 use Rattle.column.proofs.storeys.Table.lowest.Given as goal

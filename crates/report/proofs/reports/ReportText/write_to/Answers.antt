@@ -1,4 +1,3 @@
-use Rattle.std.proofs.Common.{[]}
 use Rattle.sheet_writing.proofs.WholeText.{names_append}
 use Rattle.writing.proofs.Overlays.{then, so}
 use Rattle.report.proofs.reports.ReportText.write_to.Goals as goal

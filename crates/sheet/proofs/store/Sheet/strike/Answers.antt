@@ -1,4 +1,4 @@
-use Rattle.std.proofs.Common.{refl, ◌∙◌}
+use Rattle.std.proofs.Common.{◌∙◌}
 use Rattle.sheet.specs.Held.{held, places_of}
 use Rattle.sheet.proofs.Calls.{there, struck, strike_clear}
 use Rattle.sheet.proofs.store.Sheet.strike.Goals as goal

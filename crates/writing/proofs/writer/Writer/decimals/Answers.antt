@@ -1,4 +1,4 @@
-use Rattle.std.proofs.Common.{◌+◌, ◌/◌, ◌%◌, [], ◌∷◌, sym, ap, div-one}
+use Rattle.std.proofs.Common.{◌+◌, ◌%◌, [], ◌∷◌, sym, ap, div-one}
 use Rattle.writing.proofs.Overlays.{then, so}
 use Rattle.writing.proofs.writer.Writer.decimals.Goals as goal
 
