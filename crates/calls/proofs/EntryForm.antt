@@ -2,7 +2,7 @@
 -- Assumes nothing.
 use Rattle.std.proofs.Common.{◌≡◌, ℕ, ◌-◌, ◌≤◌, true, cond, List, [], ◌∷◌, length, get_or, take, ℤ, pos, decimal, sym, refl, ap, ◌∙◌, subst, arith, length-take}
 use Rattle.std.specs.Fmt.{signed_decimal}
-use Rattle.std.specs.List.{AllByRecursion as All}
+use Rattle.std.specs.List.{AllByRecursion}
 use Rattle.effect.specs.Notations.{Notation, NotationLaws}
 use Rattle.loads.specs.declared.records.Load.{Load}
 use Rattle.lines.specs.Numeral.{Short, ShortZ}
@@ -50,7 +50,7 @@ module _ {E : Type 0} (w : Notation E) (laws : NotationLaws w) where
   effect_line n all few = record {
     first = row_form signed_token n;
     follows = λ zs u t ok any some. refl;
-    made = λ zs u ok any. (few, subst (All ShortZ) (sym (laws.numbers_value zs (ok.0 ∙ all))) ok.1);
+    made = λ zs u ok any. (few, subst (AllByRecursion ShortZ) (sym (laws.numbers_value zs (ok.0 ∙ all))) ok.1);
     joined = λ zs u t ok any. ap (λ l. spaced signed_decimal l (10 ∷ t)) (laws.numbers_value zs (ok.0 ∙ all));
     parts = λ e ok. (w.numbers e, tt, sym (laws.value_numbers e), (laws.numbers_count e ∙ sym all, ok.1), tt);
   }
@@ -65,7 +65,7 @@ module _ {E : Type 0} (w : Notation E) (laws : NotationLaws w) where
   load_line = record {
     first = row_form decimal_token 6;
     follows = λ xs e t ok any some. ends_row signed_decimal (w.numbers e) (10 ∷ t) (λ h. refl);
-    made = λ xs e ok effect. (subst (All Short) (items 6 xs ok.0) ok.1, effect);
+    made = λ xs e ok effect. (subst (AllByRecursion Short) (items 6 xs ok.0) ok.1, effect);
     joined = λ xs e t ok effect. ap (λ l. spaced decimal l (effect_end w e t)) (sym (items 6 xs ok.0));
     parts = λ x ok. (load_numbers x, x.effect, refl, (refl, ok.0), ok.1);
   }

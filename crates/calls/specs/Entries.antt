@@ -1,7 +1,7 @@
 -- The fields of a record that is entered or altered, or that is listed.
 use Rattle.std.specs.Prelude.{◌≡◌, ℕ, ◌<◌, ◌≤◌, false, List, [], ◌∷◌, ◌++◌, decimal}
 use Rattle.std.specs.Fmt.{signed_decimal}
-use Rattle.std.specs.List.{AllByRecursion as All}
+use Rattle.std.specs.List.{AllByRecursion}
 use Rattle.effect.specs.Notations.{Notation}
 use Rattle.loads.specs.declared.records.Load.{Load}
 use Rattle.lines.specs.Lines.{separates}
@@ -33,10 +33,10 @@ module _ {E : Type 0} where
 module _ {E : Type 0} (w : Notation E) where
   -- An effect can be read where its type has at most 4 numbers, and each has at most ten digits.
   abbrev pub LegibleEffect : E → Type 0
-  LegibleEffect e = (w.count ≤ 4) × All ShortZ (w.numbers e)
+  LegibleEffect e = (w.count ≤ 4) × AllByRecursion ShortZ (w.numbers e)
 
   abbrev pub LegibleLoad : Load E → Type 0
-  LegibleLoad x = All Short (load_numbers x) × LegibleEffect x.effect
+  LegibleLoad x = AllByRecursion Short (load_numbers x) × LegibleEffect x.effect
 
   -- the numbers of a load and of its effect, each after one blank, and then t
   abbrev pub load_text : Load E → List ℕ → List ℕ

@@ -1,7 +1,7 @@
 -- A choice is carried from one list of records to another with the same design loads.
 use Rattle.std.proofs.Common.{◌≡◌, ℕ, ◌+◌, ◌<◌, ◌≤◌, Bool, cond, ◌&&◌, eqb, ◌↔◌, List, [], ◌∷◌, map, length, sym, refl, ap, ◌∙◌, subst, ap₂}
 use lib.ListN.{length-map}
-use Rattle.std.specs.List.{AllByRecursion as All}
+use Rattle.std.specs.List.{AllByRecursion}
 use Rattle.effect.specs.Laws.{Operations, Laws}
 use Rattle.combination.specs.Lists.{Among, EachTwo, count}
 use Rattle.combination.specs.Choices.{Line, lines, picks_for, is_of_kind, is_taken, role, Fits, Apart, SharesGroup, Roles, Admissible}
@@ -28,7 +28,7 @@ tally t ls = count (λ l. t l.0.kind l.1) ls
 -- two lists of lines that differ in nothing that an answer rests on
 record Alike {E : Type 0} (o : Operations E) (norm : Percentages) (ls ms : List (Line E)) : Type 0 where
   tallies : (t : Kind → Pick → Bool) → tally t ls ≡ tally t ms
-  fitting : All Fits ls → All Fits ms
+  fitting : AllByRecursion Fits ls → AllByRecursion Fits ms
   groups : EachTwo Apart ls → EachTwo Apart ms
   sums : (nl nt : ℕ) → total o (contributions o norm nl nt ls) ≡ total o (contributions o norm nl nt ms)
 
@@ -90,17 +90,17 @@ module _ {E : Type 0} (o : Operations E) (laws : Laws o) (norm : Percentages) (p
     abbrev AreAlike : X → X → Type 0
     AreAlike x y = SharesGroup (left x) (left y) ↔ SharesGroup (right x) (right y)
 
-    paired_tallies : (t : Kind → Pick → Bool) (xs : List X) (ps : List Pick) → All (λ x. Partners o (left x) (right x)) xs → tally t (lines (map left xs) ps) ≡ tally t (lines (map right xs) ps)
+    paired_tallies : (t : Kind → Pick → Bool) (xs : List X) (ps : List Pick) → AllByRecursion (λ x. Partners o (left x) (right x)) xs → tally t (lines (map left xs) ps) ≡ tally t (lines (map right xs) ps)
     paired_tallies t [] ps h = refl
     paired_tallies t (x ∷ xs) [] h = refl
     paired_tallies t (x ∷ xs) (p ∷ ps) h = ap₂ ◌+◌ (ap (λ k. cond (t k p) 1 0) h.0.kinds) (paired_tallies t xs ps h.1)
 
-    paired_fitting : (xs : List X) (ps : List Pick) → All (λ x. Partners o (left x) (right x)) xs → All Fits (lines (map left xs) ps) → All Fits (lines (map right xs) ps)
+    paired_fitting : (xs : List X) (ps : List Pick) → AllByRecursion (λ x. Partners o (left x) (right x)) xs → AllByRecursion Fits (lines (map left xs) ps) → AllByRecursion Fits (lines (map right xs) ps)
     paired_fitting [] ps h f = tt
     paired_fitting (x ∷ xs) [] h f = tt
     paired_fitting (x ∷ xs) (p ∷ ps) h f = (subst (λ k. Among (picks_for k) p) h.0.kinds f.0, paired_fitting xs ps h.1 f.1)
 
-    paired_apart : (x : X) (p : Pick) (xs : List X) (ps : List Pick) → All (AreAlike x) xs → All (Apart (left x, p)) (lines (map left xs) ps) → All (Apart (right x, p)) (lines (map right xs) ps)
+    paired_apart : (x : X) (p : Pick) (xs : List X) (ps : List Pick) → AllByRecursion (AreAlike x) xs → AllByRecursion (Apart (left x, p)) (lines (map left xs) ps) → AllByRecursion (Apart (right x, p)) (lines (map right xs) ps)
     paired_apart x p [] ps g f = tt
     paired_apart x p (y ∷ xs) [] g f = tt
     paired_apart x p (y ∷ xs) (q ∷ ps) g f = (λ tx ty s. f.0 tx ty (g.0.1 s), paired_apart x p xs ps g.1 f.1)
@@ -110,13 +110,13 @@ module _ {E : Type 0} (o : Operations E) (laws : Laws o) (norm : Percentages) (p
     paired_groups (x ∷ xs) [] g f = tt
     paired_groups (x ∷ xs) (p ∷ ps) g f = (paired_apart x p xs ps g.0 f.0, paired_groups xs ps g.1 f.1)
 
-    paired_contributions : (nl nt : ℕ) (xs : List X) (ps : List Pick) → All (λ x. Partners o (left x) (right x)) xs → All (InRange o) (map left xs) → All (InRange o) (map right xs) → contributions o norm nl nt (lines (map left xs) ps) ≡ contributions o norm nl nt (lines (map right xs) ps)
+    paired_contributions : (nl nt : ℕ) (xs : List X) (ps : List Pick) → AllByRecursion (λ x. Partners o (left x) (right x)) xs → AllByRecursion (InRange o) (map left xs) → AllByRecursion (InRange o) (map right xs) → contributions o norm nl nt (lines (map left xs) ps) ≡ contributions o norm nl nt (lines (map right xs) ps)
     paired_contributions nl nt [] ps h a b = refl
     paired_contributions nl nt (x ∷ xs) [] h a b = refl
     paired_contributions nl nt (x ∷ xs) (p ∷ ps) h a b = ap₂ ◌∷◌ (same_contribution o laws norm part nl nt (left x) (right x) a.0 b.0 p h.0) (paired_contributions nl nt xs ps h.1 a.1 b.1)
 
     -- an admissible choice of one list of records gives one of the other that comes to the same
-    pub transported : (q : Question) (b c : List (Record E)) → Kept o b → Kept o c → (xs : List X) → Rearranged (map left xs) b → Rearranged (map right xs) c → All (λ x. Partners o (left x) (right x)) xs → EachTwo AreAlike xs → (ps : List Pick) → Admissible q b ps → (qs : List Pick) × Admissible q c qs × (comes_to o norm (lines b ps) ≡ comes_to o norm (lines c qs))
+    pub transported : (q : Question) (b c : List (Record E)) → Kept o b → Kept o c → (xs : List X) → Rearranged (map left xs) b → Rearranged (map right xs) c → AllByRecursion (λ x. Partners o (left x) (right x)) xs → EachTwo AreAlike xs → (ps : List Pick) → Admissible q b ps → (qs : List Pick) × Admissible q c qs × (comes_to o norm (lines b ps) ≡ comes_to o norm (lines c qs))
     transported q b c kb kc xs rb rc partners groups ps h =
         let kl = kept_rearranged (turned rb) kb in
         let kr = kept_rearranged (turned rc) kc in

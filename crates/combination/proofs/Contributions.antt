@@ -1,7 +1,7 @@
 -- A contribution's reach is bounded, and it depends on the kind and the design loads alone.
 use Rattle.std.proofs.Common.{◌≡◌, ℕ, ◌*◌, ◌≤◌, Bool, true, false, cond, List, [], ◌∷◌, length, sym, ap, ◌∙◌, subst, mul_comm, mul-le-mul, arith}
 use mathlib.Core.List.{head-eq_of_cons-eq, tail-eq_of_cons-eq}
-use Rattle.std.specs.List.{AllByRecursion as All}
+use Rattle.std.specs.List.{AllByRecursion}
 use Rattle.effect.specs.Laws.{Operations, Laws, limit}
 use Rattle.combination.specs.Choices.{lines, is_lower, is_taken, role}
 use Rattle.combination.proofs.Ranges.{AtMostWhole, InRange, Kept, Reduction}
@@ -74,7 +74,7 @@ module _ {E : Type 0} (o : Operations E) (laws : Laws o) where
     reach_contribution p r h = reach_at r.kind p r h.reach h.upper h.lower h.reduction
 
     -- the contributions of all records stay within limit
-    reaches_lines : (records : List (Record E)) (ps : List Pick) → All (InRange o) records → reaches o (contributions o norm nl nt (lines records ps)) ≤ length records * MOST
+    reaches_lines : (records : List (Record E)) (ps : List Pick) → AllByRecursion (InRange o) records → reaches o (contributions o norm nl nt (lines records ps)) ≤ length records * MOST
     reaches_lines [] ps h = omega arith
     reaches_lines (r ∷ rs) [] h = omega arith
     reaches_lines (r ∷ rs) (p ∷ ps) h = omega (arith, reach_contribution p r h.0, reaches_lines rs ps h.1)

@@ -1,7 +1,7 @@
 -- Admissible as a test, and a worst effect of few records by a test of every choice.
 use Rattle.std.proofs.Common.{◌≡◌, ℕ, Bool, true, false, not, ◌&&◌, T, eqb, ltb, leb, List, [], ◌∷◌, length, sym, refl, subst, inl, inr, le→leb, eqb→eq, ltb→lt, lt→ltb, leb→le, T_not}
 use lib.Dec.{not_T, eqb_refl}
-use Rattle.std.specs.List.{AllByRecursion as All}
+use Rattle.std.specs.List.{AllByRecursion}
 use Rattle.std.specs.Ordering.{is_le}
 use Rattle.effect.specs.Laws.{Operations}
 use Rattle.combination.specs.Lists.{Among, EachTwo}
@@ -54,11 +54,11 @@ abbrev each_two : {X : Type 0} → (X → X → Bool) → List X → Bool
 each_two r [] = true
 each_two r (x ∷ xs) = all_of xs (r x) && each_two r xs
 
-all_of_from : {X : Type 0} (P : X → Type 0) (p : X → Bool) → ((x : X) → P x → T (p x)) → (xs : List X) → All P xs → T (all_of xs p)
+all_of_from : {X : Type 0} (P : X → Type 0) (p : X → Bool) → ((x : X) → P x → T (p x)) → (xs : List X) → AllByRecursion P xs → T (all_of xs p)
 all_of_from P p f [] h = tt
 all_of_from P p f (x ∷ xs) h = both (p x) _ (f x h.0) (all_of_from P p f xs h.1)
 
-all_of_to : {X : Type 0} (P : X → Type 0) (p : X → Bool) → ((x : X) → T (p x) → P x) → (xs : List X) → T (all_of xs p) → All P xs
+all_of_to : {X : Type 0} (P : X → Type 0) (p : X → Bool) → ((x : X) → T (p x) → P x) → (xs : List X) → T (all_of xs p) → AllByRecursion P xs
 all_of_to P p f [] h = tt
 all_of_to P p f (x ∷ xs) h = (f x (first (p x) _ h), all_of_to P p f xs (second (p x) _ h))
 
@@ -114,7 +114,7 @@ module _ {E : Type 0} where
       (both (roles_test LongTerm (lines records ps)) _ (roles_from LongTerm _ h.long_roles)
       (both (roles_test ShortTerm (lines records ps)) _ (roles_from ShortTerm _ h.short_roles) (each_two_from Apart apart_test apart_from (lines records ps) h.groups)))
 
-  pub test_to : (q : Question) (records : List (Record E)) (ps : List Pick) → length ps ≡ length records → All Fits (lines records ps) → T (test q (lines records ps)) → Admissible q records ps
+  pub test_to : (q : Question) (records : List (Record E)) (ps : List Pick) → length ps ≡ length records → AllByRecursion Fits (lines records ps) → T (test q (lines records ps)) → Admissible q records ps
   test_to q records ps e f t =
       let ls = lines records ps in
       let t₁ = second (eqb (taken Special ls) (specials q)) _ t in
@@ -133,7 +133,7 @@ module _ {E : Type 0} (o : Operations E) (norm : Percentages) (q : Question) (re
   abbrev pub unbeaten : Bool
   unbeaten = all_of (choices records) (λ other. implies (test q (lines records other)) (is_le (o.order (comes_to o norm (lines records other)) e)))
 
-  pub worst_by_test : length ps ≡ length records → All Fits (lines records ps) → T (test q (lines records ps)) → comes_to o norm (lines records ps) ≡ e → T unbeaten → Worst o norm q records ps e
+  pub worst_by_test : length ps ≡ length records → AllByRecursion Fits (lines records ps) → T (test q (lines records ps)) → comes_to o norm (lines records ps) ≡ e → T unbeaten → Worst o norm q records ps e
   worst_by_test len fit t is u = record {
     admissible = test_to q records ps len fit t;
     reached = is;

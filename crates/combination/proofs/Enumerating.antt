@@ -1,6 +1,6 @@
--- All lists of picks that fit records.
+-- AllByRecursion lists of picks that fit records.
 use Rattle.std.proofs.Common.{◌≡◌, suc, ◌⊎◌, List, [], ◌∷◌, ◌++◌, map, length, sym, refl, ap, subst, inl, inr, arith}
-use Rattle.std.specs.List.{AllByRecursion as All}
+use Rattle.std.specs.List.{AllByRecursion}
 use Rattle.combination.specs.Lists.{Among}
 use Rattle.combination.specs.Choices.{lines, picks_for, Fits}
 use Rattle.combination.specs.declared.picks.Pick.{Pick}
@@ -53,16 +53,16 @@ from_prefixed (y ∷ xs) cs ps m = go (among_cases (map (λ qs. y ∷ qs) cs) (p
     go (inr k) rec = let (x, qs, j, l, e) = rec k in (x, qs, inr j, l, e)
 
 -- what fits the records is among its choices, and the other way round
-pub among_choices : {E : Type 0} (records : List (Record E)) (ps : List Pick) → length ps ≡ length records → All Fits (lines records ps) → Among (choices records) ps
+pub among_choices : {E : Type 0} (records : List (Record E)) (ps : List Pick) → length ps ≡ length records → AllByRecursion Fits (lines records ps) → Among (choices records) ps
 among_choices [] [] e f = inl refl
 among_choices [] (p ∷ ps) e f = absurd (omega arith)
 among_choices (r ∷ rs) [] e f = absurd (omega arith)
 among_choices (r ∷ rs) (p ∷ ps) e f = among_prefixed (picks_for r.kind) (choices rs) p ps f.0 (among_choices rs ps (omega arith) f.1)
 
-pub from_choices : {E : Type 0} (records : List (Record E)) (ps : List Pick) → Among (choices records) ps → (length ps ≡ length records) × All Fits (lines records ps)
+pub from_choices : {E : Type 0} (records : List (Record E)) (ps : List Pick) → Among (choices records) ps → (length ps ≡ length records) × AllByRecursion Fits (lines records ps)
 from_choices [] ps (inl e) = (ap length e, tt)
 from_choices [] ps (inr m) = absurd m
 from_choices (r ∷ rs) ps m =
     let (x, qs, fits, k, e) = from_prefixed (picks_for r.kind) (choices rs) ps m in
     let (l, f) = from_choices rs qs k in
-    subst (λ os. (length os ≡ suc (length rs)) × All Fits (lines (r ∷ rs) os)) (sym e) (ap suc l, (fits, f))
+    subst (λ os. (length os ≡ suc (length rs)) × AllByRecursion Fits (lines (r ∷ rs) os)) (sym e) (ap suc l, (fits, f))

@@ -2,7 +2,7 @@
 use Rattle.std.proofs.Common.{◌≡◌, ℕ, suc, ◌+◌, ◌<◌, ◌≤◌, Bool, true, false, cond, ◌&&◌, T, eqb, ◌⊎◌, List, [], ◌∷◌, map, length, sym, refl, ap, ◌∙◌, subst, ap₂, inl, inr, ⊎_elim, add-zero, zero-add, arith}
 use mathlib.Core.Bool.{and-false}
 use lib.ListN.{length-map}
-use Rattle.std.specs.List.{AllByRecursion as All}
+use Rattle.std.specs.List.{AllByRecursion}
 use Rattle.std.proofs.lemmas.Bool.{cases_lt}
 use Rattle.effect.specs.Laws.{Operations, Laws, AtMost}
 use Rattle.effect.proofs.AtMost.{at_most_same, at_most_under, at_most_trans, at_most_or_under}
@@ -123,11 +123,11 @@ module _ {E : Type 0} where
   idle_tally t h [] = refl
   idle_tally t h (r ∷ rs) = ap₂ (λ b n. cond b 1 0 + n) (h r.kind) (idle_tally t h rs)
 
-  idle_fits : (records : List (Record E)) → All Fits (lines records (idle records))
+  idle_fits : (records : List (Record E)) → AllByRecursion Fits (lines records (idle records))
   idle_fits [] = tt
   idle_fits (r ∷ rs) = (rest_fits r.kind, idle_fits rs)
 
-  idle_apart : (l : Line E) (records : List (Record E)) → All (Apart l) (lines records (idle records))
+  idle_apart : (l : Line E) (records : List (Record E)) → AllByRecursion (Apart l) (lines records (idle records))
   idle_apart l [] = tt
   idle_apart l (r ∷ rs) = (λ tl tm s. subst T (rest_untaken r.kind) tm, idle_apart l rs)
 
@@ -136,7 +136,7 @@ module _ {E : Type 0} where
   idle_groups (r ∷ rs) = (idle_apart (r, rest r.kind) rs, idle_groups rs)
 
   -- a record that is left out is apart from all others
-  out_apart : (r : Record E) (ls : List (Line E)) → All (Apart (r, rest r.kind)) ls
+  out_apart : (r : Record E) (ls : List (Line E)) → AllByRecursion (Apart (r, rest r.kind)) ls
   out_apart r [] = tt
   out_apart r (l ∷ ls) = (λ tl tm s. subst T (rest_untaken r.kind) tl, out_apart r ls)
 
@@ -158,7 +158,7 @@ module _ {E : Type 0} where
   record OneSpecial (records : List (Record E)) : Type 0 where
     picks : List Pick
     parallel : length picks ≡ length records
-    fitting : All Fits (lines records picks)
+    fitting : AllByRecursion Fits (lines records picks)
     tallies : (t : Kind → Pick → Bool) → ((k : Kind) → t k (rest k) ≡ false) → tally t (lines records picks) ≡ cond (t Special Taken) 1 0
     groups : EachTwo Apart (lines records picks)
 

@@ -1,6 +1,6 @@
 -- The bounds that the rules put on a record, and those of a norm.
 use Rattle.std.proofs.Common.{◌≡◌, ℕ, ◌≤◌, Bool, true, false, List, length, refl, inl, inr, ⊎_elim, arith, lit<, lit≤}
-use Rattle.std.specs.List.{AllByRecursion as All}
+use Rattle.std.specs.List.{AllByRecursion}
 use Rattle.std.proofs.ByRecursion.{All-weaker}
 use Rattle.std.proofs.lemmas.Bool.{cases_eq}
 use Rattle.effect.specs.Laws.{Operations}
@@ -31,7 +31,7 @@ pub record InRange {E : Type 0} (o : Operations E) (r : Record E) : Type 0 where
 
 pub record Kept {E : Type 0} (o : Operations E) (records : List (Record E)) : Type 0 where
   pub few : length records ≤ 32
-  pub in_range : All (InRange o) records
+  pub in_range : AllByRecursion (InRange o) records
 
 -- no percentage is above 100
 abbrev pub AtMostWhole : Percentages → Type 0

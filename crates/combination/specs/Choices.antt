@@ -1,6 +1,6 @@
 -- Choices, and which of them are admissible.
 use Rattle.std.specs.Prelude.{◌≡◌, ℕ, ◌<◌, ◌≤◌, Bool, true, false, ◌&&◌, T, List, [], ◌∷◌, length, ◌==◌}
-use Rattle.std.specs.List.{AllByRecursion as All}
+use Rattle.std.specs.List.{AllByRecursion}
 use Rattle.loads.specs.declared.kinds.Kind.{Kind}
 use Rattle.loads.specs.declared.kinds.Kind.TheVariants.{Permanent, LongTerm, ShortTerm, Special}
 use Rattle.loads.specs.declared.records.Record.{Record}
@@ -93,7 +93,7 @@ pub record Roles {E : Type 0} (k : Kind) (ls : List (Line E)) : Type 0 where
 -- each record has a pick for its kind, as many special loads are taken as the question says, the roles are given, and no two taken records share a group other than 0
 pub record Admissible {E : Type 0} (q : Question) (records : List (Record E)) (picks : List Pick) : Type 0 where
   pub parallel : length picks ≡ length records
-  pub fitting : All Fits (lines records picks)
+  pub fitting : AllByRecursion Fits (lines records picks)
   pub special : taken Special (lines records picks) ≡ specials q
   pub long_roles : Roles LongTerm (lines records picks)
   pub short_roles : Roles ShortTerm (lines records picks)

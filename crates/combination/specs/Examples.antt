@@ -1,6 +1,6 @@
 -- The same loads, entered in two ways.
 use Rattle.std.specs.Prelude.{ℕ, List, [], ◌∷◌, ℤ, pos, ◌≢◌}
-use Rattle.std.specs.List.{AllByRecursion as All}
+use Rattle.std.specs.List.{AllByRecursion}
 use Rattle.effect.specs.Models.{forces, of_force}
 use Rattle.effect.specs.declared.newtons.N.{N}
 use Rattle.loads.specs.declared.kinds.Kind.TheVariants.{Permanent, ShortTerm}
@@ -37,7 +37,7 @@ second_way = short_term_load 4 7 (pos 100) 200 0 0 ∷ permanent_load 5 (pos 550
 pub record SameLoads (first second : List (Record N)) : Type 0 where
   pub first_sound : Sound forces first
   pub second_sound : Sound forces second
-  pub different : All (λ a. All (λ b. a ≢ b) second) first
+  pub different : AllByRecursion (λ a. AllByRecursion (λ b. a ≢ b) second) first
   pub same : SameDesignLoads forces first second
   pub admissible : Admissible Basic first (Upper ∷ As Leading ∷ Out ∷ [])
   pub one_of_a_group : Admissible Basic first (Upper ∷ As Leading ∷ As Second ∷ []) → ⊥

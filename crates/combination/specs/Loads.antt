@@ -1,6 +1,6 @@
 -- Design loads, and which records have the same.
 use Rattle.std.specs.Prelude.{◌≡◌, ◌*◌, ◌↔◌, List, [], ◌∷◌, map}
-use Rattle.std.specs.List.{AllByRecursion as All}
+use Rattle.std.specs.List.{AllByRecursion}
 use Rattle.effect.specs.Laws.{Operations}
 use Rattle.combination.specs.Choices.{SharesGroup}
 use Rattle.effect.specs.Rearranging.{Rearranged}
@@ -28,5 +28,5 @@ pub record SameDesignLoads {E : Type 0} (o : Operations E) (first second : List 
   pub pairs : List (Record E × Record E)
   pub firsts : Rearranged (map (λ x. x.0) pairs) first
   pub seconds : Rearranged (map (λ x. x.1) pairs) second
-  pub partners : All (λ x. Partners o x.0 x.1) pairs
+  pub partners : AllByRecursion (λ x. Partners o x.0 x.1) pairs
   pub groups : EachTwo (λ x y. SharesGroup x.0 y.0 ↔ SharesGroup x.1 y.1) pairs

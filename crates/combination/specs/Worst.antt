@@ -1,6 +1,6 @@
 -- What a choice comes to, and which effect is the worst.
 use Rattle.std.specs.Prelude.{◌≡◌, ℕ, ◌*◌, cond, List, map, length, take, ◌≢◌}
-use Rattle.std.specs.List.{AllByRecursion as All}
+use Rattle.std.specs.List.{AllByRecursion}
 use Rattle.effect.specs.Laws.{Operations, AtMost}
 use Rattle.effect.specs.Sums.{total}
 use Rattle.loads.specs.declared.kinds.Kind.{Kind}
@@ -57,4 +57,4 @@ abbrev pub Answers : {E : Type 0} → Operations E → Percentages → Question 
 Answers o norm q records a = Worst o norm q records (take (length records) a.picks) a.effect
 
 abbrev pub NoSpecial : {E : Type 0} → List (Record E) → Type 0
-NoSpecial records = All (λ r. r.kind ≢ Special) records
+NoSpecial records = AllByRecursion (λ r. r.kind ≢ Special) records

@@ -1,6 +1,6 @@
 // Which choices are admissible.
 ghost use Rattle.std.specs.Prelude.{◌≡◌, length, Decides};
-ghost use Rattle.std.specs.List.{AllByRecursion as All};
+ghost use Rattle.std.specs.List.{AllByRecursion};
 ghost use Rattle.combination.specs.Choices.{lines, specials, picks_for, Fits, Apart, Roles, Admissible};
 ghost use Rattle.combination.specs.Lists.{Among, EachTwo};
 
@@ -48,7 +48,7 @@ fn has_roles<E>(kind: Kind, records: &[Record<E>], picks: &[Pick]) -> bool
 
 // Whether each pick is one for its record.
 fn all_fit<E>(records: &[Record<E>], picks: &[Pick]) -> bool
-    ensures { Decides result (All Fits (lines records.now picks.now)) }
+    ensures { Decides result (AllByRecursion Fits (lines records.now picks.now)) }
 {
     for i in 0..records.len().min(picks.len()) {
         if !is_for(records[i].kind, picks[i]) {
@@ -68,7 +68,7 @@ fn is_apart<E>(a: &Record<E>, a_pick: Pick, b: &Record<E>, b_pick: Pick) -> bool
 
 // Whether a record is apart from all of a list.
 fn apart_from_all<E>(of: &Record<E>, pick: Pick, records: &[Record<E>], picks: &[Pick]) -> bool
-    ensures { Decides result (All (Apart (of.now, pick)) (lines records.now picks.now)) }
+    ensures { Decides result (AllByRecursion (Apart (of.now, pick)) (lines records.now picks.now)) }
 {
     for i in 0..records.len().min(picks.len()) {
         if !is_apart(of, pick, &records[i], picks[i]) {

@@ -1,6 +1,6 @@
 -- What a rearrangement keeps.
 use Rattle.std.proofs.Common.{◌≡◌, suc, ◌+◌, List, [], ◌∷◌, map, length, refl, ap, ◌∙◌, arith}
-use Rattle.std.specs.List.{AllByRecursion as All}
+use Rattle.std.specs.List.{AllByRecursion}
 use Rattle.effect.specs.Laws.{Operations}
 use Rattle.effect.specs.Rearranging.{Rearranged, none, keep, swap, both}
 use Rattle.effect.specs.Sums.{reaches}
@@ -27,7 +27,7 @@ length_rearranged (keep r) = ap suc (length_rearranged r)
 length_rearranged swap = refl
 length_rearranged (both r s) = length_rearranged r ∙ length_rearranged s
 
-pub all_rearranged : {X : Type 0} (P : X → Type 0) {xs ys : List X} → Rearranged xs ys → All P xs → All P ys
+pub all_rearranged : {X : Type 0} (P : X → Type 0) {xs ys : List X} → Rearranged xs ys → AllByRecursion P xs → AllByRecursion P ys
 all_rearranged P none h = h
 all_rearranged P (keep r) h = (h.0, all_rearranged P r h.1)
 all_rearranged P swap h = (h.1.0, (h.0, h.1.1))

@@ -1,7 +1,7 @@
 -- Sheets with the same design loads answer the questions alike.
 -- Assumes nothing.
 use Rattle.std.proofs.Common.{◌≡◌, ℕ, List, [], ◌∷◌, map, sym, ◌∙◌}
-use Rattle.std.specs.List.{AllByRecursion as All}
+use Rattle.std.specs.List.{AllByRecursion}
 use Rattle.effect.specs.Laws.{Operations, Laws}
 use Rattle.effect.proofs.Rearranging.{turned, all_rearranged}
 use Rattle.norm.specs.Percentages.{Ranged}
@@ -22,11 +22,11 @@ use Rattle.history.proofs.Histories.{good_sound, history_good}
 
 module _ {E : Type 0} (o : Operations E) where
   -- partners have one kind
-  moved : (xs : List (Record E × Record E)) → All (λ x. Partners o x.0 x.1) xs → NoSpecial (map (λ x. x.0) xs) → NoSpecial (map (λ x. x.1) xs)
+  moved : (xs : List (Record E × Record E)) → AllByRecursion (λ x. Partners o x.0 x.1) xs → NoSpecial (map (λ x. x.0) xs) → NoSpecial (map (λ x. x.1) xs)
   moved [] h n = tt
   moved (x ∷ xs) h n = (λ e. n.0 (h.0.kinds ∙ e), moved xs h.1 n.1)
 
-  moved_back : (xs : List (Record E × Record E)) → All (λ x. Partners o x.0 x.1) xs → NoSpecial (map (λ x. x.1) xs) → NoSpecial (map (λ x. x.0) xs)
+  moved_back : (xs : List (Record E × Record E)) → AllByRecursion (λ x. Partners o x.0 x.1) xs → NoSpecial (map (λ x. x.1) xs) → NoSpecial (map (λ x. x.0) xs)
   moved_back [] h n = tt
   moved_back (x ∷ xs) h n = (λ e. n.0 (sym h.0.kinds ∙ e), moved_back xs h.1 n.1)
 

@@ -1,7 +1,7 @@
 -- What every history keeps, and a history with one call more.
 -- Assumes nothing.
 use Rattle.std.proofs.Common.{◌≡◌, ℕ, ◌<◌, ◌≤◌, List, [], ◌∷◌, ◌++◌, length, Some, sym, refl, ap, ◌∙◌, subst, ⊎_elim, arith, length-append}
-use Rattle.std.specs.List.{AllByRecursion as All}
+use Rattle.std.specs.List.{AllByRecursion}
 use Rattle.std.proofs.ByRecursion.{All-push, All-append}
 use Rattle.std.proofs.lemmas.Bool.{cases_lt}
 use Rattle.effect.specs.Laws.{Operations}
@@ -26,10 +26,10 @@ use Rattle.history.specs.declared.outcomes.Outcome.TheVariants.{Done, Refused, A
 use Rattle.history.proofs.Ledgers.{Distinct, missing_stable, distinct_push, distinct_swap, distinct_drop, changed_once, missing_beside}
 use Rattle.history.proofs.Pairs.{each_two_push, each_two_swap, each_two_drop}
 
-replaced_all : {E : Type 0} (P : Record E → Type 0) (b : List (Record E)) (n : ℕ) (new b' : List (Record E)) → Replaced b n new b' → All P new → All P b → All P b'
+replaced_all : {E : Type 0} (P : Record E → Type 0) (b : List (Record E)) (n : ℕ) (new b' : List (Record E)) → Replaced b n new b' → AllByRecursion P new → AllByRecursion P b → AllByRecursion P b'
 replaced_all P b n new b' h fresh all =
-    let parts = subst (All P) h.3 all in
-    subst (All P) (sym h.5) (All-append P h.0 (new ++ h.2) (all_front P h.0 h.1 h.2 parts) (All-append P new h.2 fresh (all_back P h.0 h.1 h.2 parts)))
+    let parts = subst (AllByRecursion P) h.3 all in
+    subst (AllByRecursion P) (sym h.5) (All-append P h.0 (new ++ h.2) (all_front P h.0 h.1 h.2 parts) (All-append P new h.2 fresh (all_back P h.0 h.1 h.2 parts)))
 
 replaced_few : {E : Type 0} (b : List (Record E)) (n : ℕ) (new b' : List (Record E)) → Replaced b n new b' → length new ≤ 1 → length b' ≤ length b
 replaced_few b n new b' h one =
@@ -38,7 +38,7 @@ replaced_few b n new b' h one =
 -- the records have room in p places, keep the rules, have distinct numbers, and those of a group are of one kind
 pub record Good {E : Type 0} (o : Operations E) (p : ℕ) (b : List (Record E)) : Type 0 where
   pub few : length b ≤ p
-  pub ruled : All (Ruled o) b
+  pub ruled : AllByRecursion (Ruled o) b
   pub distinct : Distinct b
   pub one : OneKind b
 
@@ -50,17 +50,17 @@ module _ {E : Type 0} (k : Kind) (n g : ℕ) where
   Same a b = SharesGroup a b → a.kind ≡ b.kind
 
   -- a record of the kind k in the group g, beside those that agree with it
-  before_it : (new : Record E) → new.kind ≡ k → new.load.group ≡ g → (xs : List (Record E)) → All (λ r. Agrees k g r) xs → All (λ r. Same r new) xs
+  before_it : (new : Record E) → new.kind ≡ k → new.load.group ≡ g → (xs : List (Record E)) → AllByRecursion (λ r. Agrees k g r) xs → AllByRecursion (λ r. Same r new) xs
   before_it new kind group [] h = tt
   before_it new kind group (r ∷ xs) h =
       (λ shared. h.0 (λ none. omega (arith, shared.0, shared.1)) (shared.1 ∙ group) ∙ sym kind, before_it new kind group xs h.1)
 
-  after_it : (new : Record E) → new.kind ≡ k → new.load.group ≡ g → (xs : List (Record E)) → All (λ r. Agrees k g r) xs → All (λ r. Same new r) xs
+  after_it : (new : Record E) → new.kind ≡ k → new.load.group ≡ g → (xs : List (Record E)) → AllByRecursion (λ r. Agrees k g r) xs → AllByRecursion (λ r. Same new r) xs
   after_it new kind group [] h = tt
   after_it new kind group (r ∷ xs) h =
       (λ shared. kind ∙ sym (h.0 (λ none. omega (arith, shared.0, group)) (sym shared.1 ∙ group)), after_it new kind group xs h.1)
 
-  others : (xs : List (Record E)) → Missing n xs → All (λ r. Other (Some n) r → Agrees k g r) xs → All (λ r. Agrees k g r) xs
+  others : (xs : List (Record E)) → Missing n xs → AllByRecursion (λ r. Other (Some n) r → Agrees k g r) xs → AllByRecursion (λ r. Agrees k g r) xs
   others [] m h = tt
   others (r ∷ xs) m h = (h.0 m.0, others xs m.1 h.1)
 
@@ -78,7 +78,7 @@ module _ {E : Type 0} (o : Operations E) where
       let new = record_of n h.0 x in
       let r = h.2 in
       let apart = missing_beside r.0 r.1 r.2 n r.4 (subst Distinct r.3 w.distinct) in
-      let agree = subst (All (λ y. Other (Some n) y → Agrees h.0 x.group y)) r.3 (alter_agrees o p b n l x h.0 h.1 clear) in
+      let agree = subst (AllByRecursion (λ y. Other (Some n) y → Agrees h.0 x.group y)) r.3 (alter_agrees o p b n l x h.0 h.1 clear) in
       record {
         few = omega (arith, w.few, replaced_few b n (new ∷ []) b' r (omega arith));
         ruled = replaced_all (Ruled o) b n (new ∷ []) b' r (alter_ruled o p b n l x h.0 h.1 clear, tt) w.ruled;

@@ -1,7 +1,7 @@
 -- Every call on a sheet with a history upholds the law.
 -- Assumes nothing.
 use Rattle.std.proofs.Common.{ℕ, ◌≤◌, List, [], ◌∷◌, ◌++◌, map}
-use Rattle.std.specs.List.{AllByRecursion as All}
+use Rattle.std.specs.List.{AllByRecursion}
 use Rattle.std.proofs.ByRecursion.{All-push}
 use Rattle.effect.specs.Laws.{Operations, Laws}
 use Rattle.norm.specs.Percentages.{Ranged}
@@ -29,7 +29,7 @@ all_in_range norm b s (Changing c) = tt
 all_in_range norm b s (Ask Basic) = b
 all_in_range norm b s (Ask WithSpecial) = s
 
-pub each_in_range : {E : Type 0} (norm : NormAnswers) → Ranged norm.basic → Ranged norm.special → (cs : List (Call E)) → All (InRange norm) cs
+pub each_in_range : {E : Type 0} (norm : NormAnswers) → Ranged norm.basic → Ranged norm.special → (cs : List (Call E)) → AllByRecursion (InRange norm) cs
 each_in_range norm b s [] = tt
 each_in_range norm b s (c ∷ cs) = (all_in_range norm b s c, each_in_range norm b s cs)
 
@@ -38,14 +38,14 @@ module _ {E : Type 0} (o : Operations E) (laws : Laws o) (norm : NormAnswers) (p
   keeps b (Changing c) out b' ranged good step = record { records_and_worst = step; invariance = tt }
   keeps b (Ask q) out b' ranged good step = record { records_and_worst = step; invariance = alike_anywhere o laws norm q ranged p b (good_sound o p b small good) out b' step }
 
-  kept : (b : List (Record E)) (cs : List (Call E)) (outs : List (Outcome E)) (b' : List (Record E)) → All (InRange norm) cs → Good o p b → Run o norm p b cs outs b' → KeptFrom o norm p b cs outs b'
+  kept : (b : List (Record E)) (cs : List (Call E)) (outs : List (Outcome E)) (b' : List (Record E)) → AllByRecursion (InRange norm) cs → Good o p b → Run o norm p b cs outs b' → KeptFrom o norm p b cs outs b'
   kept b [] [] b' ranged good h = h
   kept b [] (out ∷ outs) b' ranged good h = h
   kept b (c ∷ cs) [] b' ranged good h = h
   kept b (c ∷ cs) (out ∷ outs) b' ranged good h =
       (h.0, keeps b c out h.0 ranged.0 good h.1, kept h.0 cs outs b' ranged.1 (step_good o norm p b c out h.0 h.1 good) h.2)
 
-pub history_law : {E : Type 0} (o : Operations E) → Laws o → (norm : NormAnswers) (p : ℕ) (cs : List (Call E)) (outs : List (Outcome E)) (b : List (Record E)) → All (InRange norm) cs → History o norm p cs outs b → Law o norm p cs outs b
+pub history_law : {E : Type 0} (o : Operations E) → Laws o → (norm : NormAnswers) (p : ℕ) (cs : List (Call E)) (outs : List (Outcome E)) (b : List (Record E)) → AllByRecursion (InRange norm) cs → History o norm p cs outs b → Law o norm p cs outs b
 history_law o laws norm p cs outs b ranged h = kept o laws norm p h.0 [] cs outs b ranged (blank_good o norm p) h.1
 
 module _ {E : Type 0} (o : Operations E) (laws : Laws o) (norm : NormAnswers) (p : ℕ) (b : List (Record E)) (c : Call E) (out : Outcome E) (b' : List (Record E)) (stepped : Stepped o norm p b c out b') where
@@ -67,7 +67,7 @@ pub basic_in_range : {E : Type 0} (norm : NormAnswers) → Ranged norm.basic →
 basic_in_range norm b (BasicChange c) = tt
 basic_in_range norm b BasicAsk = b
 
-basics_in_range : {E : Type 0} (norm : NormAnswers) → Ranged norm.basic → (cs : List (BasicCall E)) → All (InRange norm) (map call_of cs)
+basics_in_range : {E : Type 0} (norm : NormAnswers) → Ranged norm.basic → (cs : List (BasicCall E)) → AllByRecursion (InRange norm) (map call_of cs)
 basics_in_range norm b [] = tt
 basics_in_range norm b (c ∷ cs) = (basic_in_range norm b c, basics_in_range norm b cs)
 

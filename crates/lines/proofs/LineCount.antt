@@ -1,6 +1,6 @@
 -- Which line the cursor stands in after something was read.
 use Rattle.std.proofs.Common.{◌≡◌, ℕ, ◌+◌, List, [], ◌∷◌, sym, refl, ap, ◌∙◌, arith, take-append-drop}
-use Rattle.std.specs.List.{AllByRecursion as All}
+use Rattle.std.specs.List.{AllByRecursion}
 use Rattle.lines.specs.Lexing.{Sort, SameText, line_at, read, rest}
 use Rattle.lines.specs.Lines.{newlines}
 use Rattle.lines.specs.Reading.{spaced, fields_of}
@@ -18,12 +18,12 @@ lines_passed s u k ends same = omega (arith, ends, both_sides s, both_sides u, a
 
 -- fields have no line end in them
 module _ {A : Type 0} {k : Sort} {valid : A → Type 0} {written : A → List ℕ} (tokenly : Tokenly k valid written) where
-  pub newlines_spaced : (xs : List A) (t : List ℕ) → All valid xs → newlines (spaced written xs t) ≡ newlines t
+  pub newlines_spaced : (xs : List A) (t : List ℕ) → AllByRecursion valid xs → newlines (spaced written xs t) ≡ newlines t
   newlines_spaced [] t ok = refl
   newlines_spaced (x ∷ xs) t ok =
       omega (arith, newlines_append (written x) (spaced written xs t), newlines_solid (written x) (tokenly.solid x ok.0), newlines_spaced xs t ok.1)
 
-  pub newlines_fields : (xs : List A) (t : List ℕ) → All valid xs → newlines (fields_of written xs t) ≡ newlines t
+  pub newlines_fields : (xs : List A) (t : List ℕ) → AllByRecursion valid xs → newlines (fields_of written xs t) ≡ newlines t
   newlines_fields [] t ok = refl
   newlines_fields (x ∷ xs) t ok =
       omega (arith, newlines_append (written x) (spaced written xs t), newlines_solid (written x) (tokenly.solid x ok.0), newlines_spaced xs t ok.1)

@@ -2,7 +2,7 @@
 use Rattle.std.proofs.Common.{◌≡◌, ℕ, zero, suc, ◌+◌, ◌<◌, ◌≤◌, ltb, List, [], ◌∷◌, ◌++◌, length, get_or, take, drop, set, Some, None, sym, refl, ap, ◌∙◌, subst, append_assoc, add-one, arith, length-set, lt-ltb}
 use Rattle.std.proofs.ByRecursion.{All-push}
 use Rattle.std.proofs.lemmas.List.{drop_all, drop_more, take_more_set, take_all, length-take-le}
-use Rattle.std.specs.List.{AllByRecursion as All}
+use Rattle.std.specs.List.{AllByRecursion}
 use Rattle.lines.specs.Lexing.{Sort, SameText, rest}
 use Rattle.lines.specs.Lines.{newlines}
 use Rattle.lines.specs.Reading.{Ends, Row, Reads, ReadsLine, Anything, before, byte, blank_if, led, spaced, fields_of}
@@ -33,7 +33,7 @@ module _ {A : Type 0} (written : A → List ℕ) where
 
 module _ {A : Type 0} {k : Sort} {valid : A → Type 0} {written : A → List ℕ} (tokenly : Tokenly k valid written) where
   -- two rows of one length in one text are the same
-  pub same_row : (xs ms : List A) (r t : List ℕ) → All valid xs → All valid ms → length xs ≡ length ms → (0 < length xs → Ends r) → Ends t → spaced written xs r ≡ spaced written ms t → (xs ≡ ms) × (r ≡ t)
+  pub same_row : (xs ms : List A) (r t : List ℕ) → AllByRecursion valid xs → AllByRecursion valid ms → length xs ≡ length ms → (0 < length xs → Ends r) → Ends t → spaced written xs r ≡ spaced written ms t → (xs ≡ ms) × (r ≡ t)
   same_row [] [] r t vx vm l er et e = (refl, e)
   same_row [] (m ∷ ms) r t vx vm l er et e = absurd (omega arith)
   same_row (x ∷ xs) [] r t vx vm l er et e = absurd (omega arith)
@@ -46,14 +46,14 @@ module _ {A : Type 0} {k : Sort} {valid : A → Type 0} {written : A → List �
       let more = same_row xs ms r t vx.1 vm.1 (omega arith) (λ h. er (omega arith)) et one.1 in
       ((λ i. head i ∷ more.0 i), more.1)
 
-  pub same_fields : (xs ms : List A) (r t : List ℕ) → All valid xs → All valid ms → length xs ≡ length ms → (0 < length xs → Ends r) → Ends t → fields_of written xs r ≡ fields_of written ms t → (xs ≡ ms) × (r ≡ t)
+  pub same_fields : (xs ms : List A) (r t : List ℕ) → AllByRecursion valid xs → AllByRecursion valid ms → length xs ≡ length ms → (0 < length xs → Ends r) → Ends t → fields_of written xs r ≡ fields_of written ms t → (xs ≡ ms) × (r ≡ t)
   same_fields [] [] r t vx vm l er et e = (refl, e)
   same_fields [] (m ∷ ms) r t vx vm l er et e = absurd (omega arith)
   same_fields (x ∷ xs) [] r t vx vm l er et e = absurd (omega arith)
   same_fields (x ∷ xs) (m ∷ ms) r t vx vm l er et e = same_row (x ∷ xs) (m ∷ ms) r t vx vm l er et (ap (λ s. 32 ∷ s) e)
 
   -- a row that goes on where no value follows
-  pub no_row : (xs ms : List A) (r t : List ℕ) → All valid xs → All valid ms → length xs < length ms → (0 < length xs → Ends r) → Ends t → spaced written xs r ≡ spaced written ms t → ((a : A) (u : List ℕ) → valid a → Ends u → r ≡ 32 ∷ (written a ++ u) → ⊥) → ⊥
+  pub no_row : (xs ms : List A) (r t : List ℕ) → AllByRecursion valid xs → AllByRecursion valid ms → length xs < length ms → (0 < length xs → Ends r) → Ends t → spaced written xs r ≡ spaced written ms t → ((a : A) (u : List ℕ) → valid a → Ends u → r ≡ 32 ∷ (written a ++ u) → ⊥) → ⊥
   no_row xs [] r t vx vm l er et e none = absurd (omega arith)
   no_row [] (m ∷ ms) r t vx vm l er et e none = none m (spaced written ms t) vm.0 (ends_row written ms t (λ h. et)) e
   no_row (x ∷ xs) (m ∷ ms) r t vx vm l er et e none =
@@ -63,7 +63,7 @@ module _ {A : Type 0} {k : Sort} {valid : A → Type 0} {written : A → List �
       let one = one_way (written x) (written m) (spaced written xs r) (spaced written ms t) (tokenly.solid x vx.0) (tokenly.solid m vm.0) tail-x tail-m cut in
       no_row xs ms r t vx.1 vm.1 (omega arith) (λ h. er (omega arith)) et one.1 none
 
-  pub no_fields : (xs ms : List A) (r t : List ℕ) → All valid xs → All valid ms → length xs < length ms → (0 < length xs → Ends r) → Ends t → fields_of written xs r ≡ fields_of written ms t → ((a : A) (u : List ℕ) → valid a → Ends u → r ≡ led (ltb 0 (length xs)) written a u → ⊥) → ⊥
+  pub no_fields : (xs ms : List A) (r t : List ℕ) → AllByRecursion valid xs → AllByRecursion valid ms → length xs < length ms → (0 < length xs → Ends r) → Ends t → fields_of written xs r ≡ fields_of written ms t → ((a : A) (u : List ℕ) → valid a → Ends u → r ≡ led (ltb 0 (length xs)) written a u → ⊥) → ⊥
   no_fields xs [] r t vx vm l er et e none = absurd (omega arith)
   no_fields [] (m ∷ ms) r t vx vm l er et e none = none m (spaced written ms t) vm.0 (ends_row written ms t (λ h. et)) e
   no_fields (x ∷ xs) (m ∷ ms) r t vx vm l er et e none =
@@ -73,7 +73,7 @@ module _ {A : Type 0} {k : Sort} {valid : A → Type 0} {written : A → List �
 -- i of n values are read into out, from s to u
 pub record Sofar {A : Type 0} (valid : A → Type 0) (written : A → List ℕ) (n i : ℕ) (out : List A) (s u : Tokens) : Type 0 where
   pub size : length out ≡ n
-  pub row : All valid (take i out)
+  pub row : AllByRecursion valid (take i out)
   pub cut : rest s ≡ fields_of written (take i out) (rest u)
   pub stops : 0 < i → Ends (rest u)
   pub text : SameText s u
@@ -85,7 +85,7 @@ module _ {A : Type 0} {valid : A → Type 0} {written : A → List ℕ} {n i : �
       let long = length-take-le i out (omega (arith, h.size)) in
       record {
         size = length-set out i a ∙ h.size;
-        row = subst (All valid) (sym push) (All-push valid (take i out) a h.row got.0);
+        row = subst (AllByRecursion valid) (sym push) (All-push valid (take i out) a h.row got.0);
         cut = h.cut ∙ ap (fields_of written (take i out)) (got.1 ∙ ap (λ j. led (ltb 0 j) written a (rest v)) (sym long)) ∙ sym (fields_push written (take i out) a (rest v)) ∙ ap (λ l. fields_of written l (rest v)) (sym push);
         stops = λ _. got.2;
         text = got.3 ∙ h.text;
@@ -94,7 +94,7 @@ module _ {A : Type 0} {valid : A → Type 0} {written : A → List ℕ} {n i : �
   pub row_all : n ≤ i → Row valid n out × (rest s ≡ fields_of written out (rest u))
   row_all done =
       let all = take_all i out (omega (arith, h.size)) in
-      ((h.size, subst (All valid) all h.row), h.cut ∙ ap (λ l. fields_of written l (rest u)) all)
+      ((h.size, subst (AllByRecursion valid) all h.row), h.cut ∙ ap (λ l. fields_of written l (rest u)) all)
 
   -- no value follows, though a row of n would have one
   pub row_none : {k : Sort} → Tokenly k valid written → (v : Tokens) → i < n → Reads valid (led (ltb 0 i) written) Ends u None v → (ms : List A) (t : List ℕ) → Row valid n ms → Ends t → rest s ≡ fields_of written ms t → ⊥

@@ -3,7 +3,7 @@
 use Rattle.std.proofs.Common.{◌≡◌, ℕ, ◌+◌, ◌<◌, true, List, [], ◌∷◌, length, take, set, Some, None, sym, refl, ap, ◌∙◌, subst, arith, length-set}
 use Rattle.std.proofs.ByRecursion.{All-push}
 use Rattle.std.proofs.lemmas.List.{take_more_set, take_all, length-take-le}
-use Rattle.std.specs.List.{AllByRecursion as All}
+use Rattle.std.specs.List.{AllByRecursion}
 use Rattle.lines.specs.Lexing.{Sort, SameText, rest}
 use Rattle.lines.specs.Reading.{Ends, EndsAfter, Row, Reads, led, spaced}
 use Rattle.lines.specs.declared.token.Tokens.{Tokens}
@@ -30,7 +30,7 @@ module _ {A : Type 0} {k : Sort} {valid : A → Type 0} {written : A → List �
 -- i of n values are read into out, from s to u
 pub record SpacedSofar {A : Type 0} (valid : A → Type 0) (written : A → List ℕ) (n i : ℕ) (out : List A) (s u : Tokens) : Type 0 where
   pub size : length out ≡ n
-  pub row : All valid (take i out)
+  pub row : AllByRecursion valid (take i out)
   pub cut : rest s ≡ spaced written (take i out) (rest u)
   pub stops : 0 < i → Ends (rest u)
   pub text : SameText s u
@@ -44,7 +44,7 @@ module _ {A : Type 0} {valid : A → Type 0} {written : A → List ℕ} {n i : �
       let push = take_more_set out i a (omega (arith, h.size)) in
       record {
         size = length-set out i a ∙ h.size;
-        row = subst (All valid) (sym push) (All-push valid (take i out) a h.row got.0);
+        row = subst (AllByRecursion valid) (sym push) (All-push valid (take i out) a h.row got.0);
         cut = h.cut ∙ ap (spaced written (take i out)) got.1 ∙ sym (spaced_push written (take i out) a (rest v)) ∙ ap (λ l. spaced written l (rest v)) (sym push);
         stops = λ _. got.2;
         text = got.3 ∙ h.text;
@@ -63,4 +63,4 @@ module _ {A : Type 0} {valid : A → Type 0} {written : A → List ℕ} {n i : �
   pub spaced_whole : i ≡ n → Reads (Row valid n) (spaced written) (EndsAfter n) s (Some out) u
   spaced_whole done =
       let all = take_all i out (omega (arith, h.size)) in
-      ((h.size, subst (All valid) all h.row), h.cut ∙ ap (λ l. spaced written l (rest u)) all, (λ some. h.stops (omega arith)), h.text)
+      ((h.size, subst (AllByRecursion valid) all h.row), h.cut ∙ ap (λ l. spaced written l (rest u)) all, (λ some. h.stops (omega arith)), h.text)

@@ -1,6 +1,6 @@
 -- What a reader answers: it reads a value exactly where the text goes on with what is written of that value.
 use Rattle.std.specs.Prelude.{◌≡◌, ℕ, ◌+◌, ◌<◌, Bool, true, false, List, [], ◌∷◌, ◌++◌, length, Some, None, decimal, Option, ◌≢◌}
-use Rattle.std.specs.List.{AllByRecursion as All}
+use Rattle.std.specs.List.{AllByRecursion}
 use Rattle.lines.specs.Lexing.{rest, line_at, SameText}
 use Rattle.lines.specs.Lines.{separates, field}
 use Rattle.lines.specs.declared.token.Tokens.{Tokens}
@@ -67,7 +67,7 @@ pub record ReadsLine {A : Type 0} (valid : A → Type 0) (written : A → List �
 
 -- n valid values
 abbrev pub Row : {A : Type 0} → (A → Type 0) → ℕ → List A → Type 0
-Row valid n xs = (length xs ≡ n) × All valid xs
+Row valid n xs = (length xs ≡ n) × AllByRecursion valid xs
 
 -- a field that is not empty is the whole of x
 abbrev pub FieldText : List ℕ → Type 0

@@ -1,7 +1,7 @@
 -- No two taken records share a group: in a choice, and in each of its parts.
 use Rattle.std.proofs.Common.{◌≡◌, ℕ, zero, suc, Bool, true, false, cond, T, ◌≢◌, List, [], ◌∷◌, get_or, sym, refl, ap, ◌∙◌, subst, inl, inr, ⊎_elim, arith}
 use Rattle.std.proofs.lemmas.Bool.{cases_eq}
-use Rattle.std.specs.List.{AllByRecursion as All}
+use Rattle.std.specs.List.{AllByRecursion}
 use Rattle.effect.specs.Laws.{Operations}
 use Rattle.questions.specs.PartChoices.{group_at}
 use Rattle.questions.specs.PartChoices.{taken as takes, Apart as Separate}
@@ -48,7 +48,7 @@ fit_taken ShortTerm p f t = plain_taken p ∙ to_cond (is_taken p) t
 fit_taken Special p f t = lone_taken p ∙ to_cond (is_taken p) t
 
 module _ {V : Type 0} (e : Operations V) where
-  all_from : (k : Kind) (s : Percents) (r : Record V) (p : Pick) (rs : List (Record V)) (ps : List Pick) (j : ℕ) → All (Apart (r, p)) (lines rs ps) → T (is_taken p) → takes (get_or (part k rs ps) j Out) ≡ 1 → r.load.group ≡ group_at (items_of e s rs) j → r.load.group ≡ 0
+  all_from : (k : Kind) (s : Percents) (r : Record V) (p : Pick) (rs : List (Record V)) (ps : List Pick) (j : ℕ) → AllByRecursion (Apart (r, p)) (lines rs ps) → T (is_taken p) → takes (get_or (part k rs ps) j Out) ≡ 1 → r.load.group ≡ group_at (items_of e s rs) j → r.load.group ≡ 0
   all_from k s r p [] ps j f tp tj same = absurd (omega arith)
   all_from k s r p (x ∷ rs) [] j f tp tj same = absurd (omega arith)
   all_from k s r p (x ∷ rs) (y ∷ ps) zero f tp tj same = ⊎_elim
@@ -65,7 +65,7 @@ module _ {V : Type 0} (e : Operations V) where
   apart_from k s (r ∷ rs) (p ∷ ps) f (suc i) zero ne ti tj same = same ∙ all_from k s r p rs ps i f.0 (taken_cond k (is_of_kind k r.kind) p tj) ti (sym same)
   apart_from k s (r ∷ rs) (p ∷ ps) f (suc i) (suc j) ne ti tj same = apart_from k s rs ps f.1 i j (λ h. ne (ap suc h)) ti tj same
 
-  all_to : (r : Record V) (p : Pick) (s : Percents) (rs : List (Record V)) (ps : List Pick) → Among (picks_for r.kind) p → All Fits (lines rs ps) → All (λ b. SharesGroup r b → r.kind ≡ b.kind) rs → ((j : ℕ) → takes (cond (is_of_kind r.kind r.kind) (role_at r.kind p) Out) ≡ 1 → takes (get_or (part r.kind rs ps) j Out) ≡ 1 → r.load.group ≡ group_at (items_of e s rs) j → r.load.group ≡ 0) → All (Apart (r, p)) (lines rs ps)
+  all_to : (r : Record V) (p : Pick) (s : Percents) (rs : List (Record V)) (ps : List Pick) → Among (picks_for r.kind) p → AllByRecursion Fits (lines rs ps) → AllByRecursion (λ b. SharesGroup r b → r.kind ≡ b.kind) rs → ((j : ℕ) → takes (cond (is_of_kind r.kind r.kind) (role_at r.kind p) Out) ≡ 1 → takes (get_or (part r.kind rs ps) j Out) ≡ 1 → r.load.group ≡ group_at (items_of e s rs) j → r.load.group ≡ 0) → AllByRecursion (Apart (r, p)) (lines rs ps)
   all_to r p s [] ps f fs one h = tt
   all_to r p s (x ∷ rs) [] f fs one h = tt
   all_to r p s (x ∷ rs) (y ∷ ps) f fs one h = (
@@ -73,7 +73,7 @@ module _ {V : Type 0} (e : Operations V) where
     all_to r p s rs ps f fs.1 one.1 (λ j. h (suc j)),
   )
 
-  pub apart_to : (s : Kind → Percents) (rs : List (Record V)) (ps : List Pick) → All Fits (lines rs ps) → OneKind rs → ((k : Kind) → Separate (items_of e (s k) rs) (part k rs ps)) → EachTwo Apart (lines rs ps)
+  pub apart_to : (s : Kind → Percents) (rs : List (Record V)) (ps : List Pick) → AllByRecursion Fits (lines rs ps) → OneKind rs → ((k : Kind) → Separate (items_of e (s k) rs) (part k rs ps)) → EachTwo Apart (lines rs ps)
   apart_to s [] ps f one h = tt
   apart_to s (r ∷ rs) [] f one h = tt
   apart_to s (r ∷ rs) (p ∷ ps) f one h = (

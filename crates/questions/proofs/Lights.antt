@@ -1,6 +1,6 @@
 -- No choice passes the limit where each contribution is small.
 use Rattle.std.proofs.Common.{ℕ, ◌*◌, ◌≤◌, List, [], ◌∷◌, length, mul-le-mul_right, suc-mul, arith}
-use Rattle.std.specs.List.{AllByRecursion as All}
+use Rattle.std.specs.List.{AllByRecursion}
 use Rattle.effect.specs.Laws.{Operations, Laws, limit}
 use Rattle.questions.specs.PartChoices.{worth, reach_sum, Light, Small}
 use Rattle.questions.specs.Items.{Item}
@@ -14,10 +14,10 @@ module _ {V : Type 0} {n : Operations V} (laws : Laws n) (u : ℕ) where
   small_worth it Second h = h.second
   small_worth it Other h = h.other
 
-  reach_sum_small : (items : List (Item V)) (ps : List Assignment) → All (Small n u) items → reach_sum n items ps ≤ length items * u
+  reach_sum_small : (items : List (Item V)) (ps : List Assignment) → AllByRecursion (Small n u) items → reach_sum n items ps ≤ length items * u
   reach_sum_small [] ps h = omega arith
   reach_sum_small (it ∷ items) [] h = omega arith
   reach_sum_small (it ∷ items) (p ∷ ps) h = omega (arith, small_worth it p h.0, reach_sum_small items ps h.1, suc-mul (length items) u)
 
-  pub light_from_small : (items : List (Item V)) → length items ≤ 32 → 32 * u ≤ limit → All (Small n u) items → Light n items
+  pub light_from_small : (items : List (Item V)) → length items ≤ 32 → 32 * u ≤ limit → AllByRecursion (Small n u) items → Light n items
   light_from_small items few fits h ps same = omega (arith, reach_sum_small items ps h, mul-le-mul_right u few)

@@ -1,7 +1,7 @@
 -- The parts of a choice that is put together from choices of each kind.
 use Rattle.std.proofs.Common.{◌≡◌, ℕ, zero, suc, ◌<◌, ◌≤◌, true, false, cond, List, [], ◌∷◌, map, length, get_or, Ordering, Less, Equal, Greater, refl, ap, ◌∙◌, ap₂, inl, inr, arith}
 use Rattle.std.proofs.lemmas.Bool.{both_ways}
-use Rattle.std.specs.List.{AllByRecursion as All}
+use Rattle.std.specs.List.{AllByRecursion}
 use Rattle.effect.specs.Laws.{Operations}
 use Rattle.questions.specs.PartChoices.{leads, Marked}
 use Rattle.questions.specs.PartChoices.{taken as takes, count as tally}
@@ -76,7 +76,7 @@ module _ {V : Type 0} (e : Operations V) where
   length_merged [] l t s = refl
   length_merged (r ∷ rs) l t s = ap suc (length_merged rs (λ k. l (suc k)) (λ k. t (suc k)) (λ k. s (suc k)))
 
-  pub fits_merged : (rs : List (Record V)) (l t s : ℕ → Assignment) → All Fits (lines rs (merged e rs l t s))
+  pub fits_merged : (rs : List (Record V)) (l t s : ℕ → Assignment) → AllByRecursion Fits (lines rs (merged e rs l t s))
   fits_merged [] l t s = tt
   fits_merged (r ∷ rs) l t s = (fits_placed r.kind r (l 0) (t 0) (s 0), fits_merged rs (λ k. l (suc k)) (λ k. t (suc k)) (λ k. s (suc k)))
 
@@ -86,7 +86,7 @@ module _ {V : Type 0} (e : Operations V) where
   factor_placed ShortTerm r l t s = refl
   factor_placed Special r l t s = refl
 
-  pub factors_merged : (rs : List (Record V)) (l t s : ℕ → Assignment) → All (λ x. fixed e x.0.kind x.1 x.0 ≡ fixed e x.0.kind (best_factor e x.0) x.0) (lines rs (merged e rs l t s))
+  pub factors_merged : (rs : List (Record V)) (l t s : ℕ → Assignment) → AllByRecursion (λ x. fixed e x.0.kind x.1 x.0 ≡ fixed e x.0.kind (best_factor e x.0) x.0) (lines rs (merged e rs l t s))
   factors_merged [] l t s = tt
   factors_merged (r ∷ rs) l t s = (factor_placed r.kind r (l 0) (t 0) (s 0), factors_merged rs (λ k. l (suc k)) (λ k. t (suc k)) (λ k. s (suc k)))
 

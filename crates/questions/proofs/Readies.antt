@@ -3,7 +3,7 @@ use Rattle.std.proofs.Common.{◌≡◌, ℕ, ◌*◌, ◌<◌, ◌≤◌, List,
 use lib.ListN.{length-map}
 use Rattle.std.proofs.ByRecursion.{All-get_or}
 use Rattle.std.proofs.lemmas.List.{get_or-map}
-use Rattle.std.specs.List.{AllByRecursion as All}
+use Rattle.std.specs.List.{AllByRecursion}
 use Rattle.effect.specs.Laws.{Operations, Laws}
 use Rattle.combination.specs.Worst.{factor}
 use Rattle.questions.specs.PartChoices.{Light, Small, group_of, group_at}
@@ -46,7 +46,7 @@ module _ {V : Type 0} {e : Operations V} (laws : Laws e) where
   pub small_item : (s : Percents) (r : Record V) → InRange e r → Whole s → Small e most (item_of e s r)
   small_item s r h w = record { leading = reach_share r s.leading h w.leading; second = reach_share r s.second h w.second; other = reach_share r s.other h w.other }
 
-  small_items : (s : Percents) (rs : List (Record V)) → All (InRange e) rs → Whole s → All (Small e most) (items_of e s rs)
+  small_items : (s : Percents) (rs : List (Record V)) → AllByRecursion (InRange e) rs → Whole s → AllByRecursion (Small e most) (items_of e s rs)
   small_items s [] h w = tt
   small_items s (r ∷ rs) h w = (small_item s r h.0 w, small_items s rs h.1 w)
 
@@ -65,7 +65,7 @@ module _ {V : Type 0} (e : Operations V) (s : Percents) (rs : List (Record V)) w
   group_shown k r h = get_or-map group_of (items_of e s rs) k (item_of e s r) 0 (omega (arith, same_length)) ∙ ap group_of (get_or-map (item_of e s) rs k r (item_of e s r) h)
 
 -- a record that was read from a list
-pub in_range_at : {V : Type 0} (e : Operations V) (rs : List (Record V)) (k : ℕ) (r : Record V) → r ≡ get_or rs k r → k < length rs → All (InRange e) rs → InRange e r
+pub in_range_at : {V : Type 0} (e : Operations V) (rs : List (Record V)) (k : ℕ) (r : Record V) → r ≡ get_or rs k r → k < length rs → AllByRecursion (InRange e) rs → InRange e r
 in_range_at e rs k r is h all = subst (InRange e) (sym is) (All-get_or (InRange e) rs k r h all)
 
 -- and its weight

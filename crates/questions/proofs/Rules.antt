@@ -1,7 +1,7 @@
 -- What the rules of a record give of its weight.
 use Rattle.std.proofs.Common.{◌≡◌, ℕ, zero, suc, ◌+◌, ◌<◌, ◌≤◌, ◌≢◌, List, [], ◌∷◌, length, get_or, set, sym, refl, ap, ◌∙◌, subst, inl, inr, ⊎_elim, arith, length-set, get_or-set_other, get_or-set_same}
 use Rattle.std.proofs.lemmas.Bool.{cases_eq}
-use Rattle.std.specs.List.{AllByRecursion as All}
+use Rattle.std.specs.List.{AllByRecursion}
 use Rattle.effect.specs.Laws.{Operations}
 use Rattle.reduction.specs.Answer.{Given}
 use Rattle.reduction.specs.Factor.{InRange as Reducible}
@@ -46,7 +46,7 @@ get_d_inside [] i h a b = absurd (omega arith)
 get_d_inside (x ∷ xs) zero h a b = refl
 get_d_inside (x ∷ xs) (suc i) h a b = get_d_inside xs i (omega arith) a b
 
-all_inside : {X : Type 0} (P : X → Type 0) (xs : List X) → ((i : ℕ) (d : X) → i < length xs → P (get_or xs i d)) → All P xs
+all_inside : {X : Type 0} (P : X → Type 0) (xs : List X) → ((i : ℕ) (d : X) → i < length xs → P (get_or xs i d)) → AllByRecursion P xs
 all_inside P [] h = tt
 all_inside P (x ∷ xs) h = (h 0 x (omega arith), all_inside P xs (λ i d l. h (suc i) d (omega arith)))
 

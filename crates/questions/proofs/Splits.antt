@@ -1,6 +1,6 @@
 -- What a choice comes to is the sum of its parts.
 use Rattle.std.proofs.Common.{◌≡◌, ℕ, ◌+◌, ◌*◌, ◌≤◌, Bool, true, false, cond, List, [], ◌∷◌, length, Ordering, Less, Equal, Greater, sym, refl, ap, ◌∙◌, subst, ap₂, inl, inr, arith}
-use Rattle.std.specs.List.{AllByRecursion as All}
+use Rattle.std.specs.List.{AllByRecursion}
 use Rattle.effect.specs.Laws.{Operations, Laws, limit}
 use Rattle.effect.specs.Sums.{total}
 use Rattle.norm.specs.Percentages.{Percentages}
@@ -73,7 +73,7 @@ module _ {V : Type 0} {e : Operations V} (laws : Laws e) where
   worth_bound it true x h = small_worth laws most it x h
   worth_bound it false x h = omega (arith, laws.reach_nil)
 
-  pub reach_part : (k : Kind) (s : Percents) → Whole s → (rs : List (Record V)) (ps : List Pick) → All (InRange e) rs → kinds k rs ≤ 32 → e.reach (comes e (items_of e s rs) (part k rs ps)) ≤ kinds k rs * most
+  pub reach_part : (k : Kind) (s : Percents) → Whole s → (rs : List (Record V)) (ps : List Pick) → AllByRecursion (InRange e) rs → kinds k rs ≤ 32 → e.reach (comes e (items_of e s rs) (part k rs ps)) ≤ kinds k rs * most
   reach_part k s w [] ps h few = omega (arith, laws.reach_nil)
   reach_part k s w (r ∷ rs) [] h few = omega (arith, laws.reach_nil)
   reach_part k s w (r ∷ rs) (p ∷ ps) h few =
@@ -87,7 +87,7 @@ module _ {V : Type 0} {e : Operations V} (laws : Laws e) where
   fixed_bound ShortTerm p r h = omega (arith, laws.reach_nil)
   fixed_bound Special p r h = omega (arith, laws.reach_nil)
 
-  pub reach_fixed : (rs : List (Record V)) (ps : List Pick) → All (InRange e) rs → kinds Permanent rs ≤ 32 → e.reach (fixed_sum e rs ps) ≤ kinds Permanent rs * most
+  pub reach_fixed : (rs : List (Record V)) (ps : List Pick) → AllByRecursion (InRange e) rs → kinds Permanent rs ≤ 32 → e.reach (fixed_sum e rs ps) ≤ kinds Permanent rs * most
   reach_fixed [] ps h few = omega (arith, laws.reach_nil)
   reach_fixed (r ∷ rs) [] h few = omega (arith, laws.reach_nil)
   reach_fixed (r ∷ rs) (p ∷ ps) h few =
@@ -185,7 +185,7 @@ module _ {V : Type 0} {e : Operations V} (laws : Laws e) where
     abbrev pub by_parts : List (Record V) → List Pick → V
     by_parts rs ps = four (fixed_sum e rs ps) (comes e (items_of e (granted norm Long nl nt) rs) (part LongTerm rs ps)) (comes e (items_of e (granted norm Short nl nt) rs) (part ShortTerm rs ps)) (comes e (items_of e full rs) (part Special rs ps))
 
-    pub split : (rs : List (Record V)) (ps : List Pick) → length ps ≡ length rs → length rs ≤ 32 → All (InRange e) rs → All Fits (lines rs ps) → total e (contributions e norm nl nt (lines rs ps)) ≡ by_parts rs ps
+    pub split : (rs : List (Record V)) (ps : List Pick) → length ps ≡ length rs → length rs ≤ 32 → AllByRecursion (InRange e) rs → AllByRecursion Fits (lines rs ps) → total e (contributions e norm nl nt (lines rs ps)) ≡ by_parts rs ps
     split [] ps same few h f =
         let n : e.plus e.nil e.nil ≡ e.nil = nil_plus laws e.nil (omega (arith, laws.reach_nil)) in
         sym (ap (λ (y : V). e.plus e.nil (e.plus e.nil y)) n ∙ ap (e.plus e.nil) n ∙ n)
@@ -214,7 +214,7 @@ module _ {V : Type 0} {e : Operations V} (laws : Laws e) where
         one_most Special = refl
 
     -- no part less: no less together
-    pub parts_most : (rs : List (Record V)) (ps qs : List Pick) → length rs ≤ 32 → All (InRange e) rs → AtMost e (fixed_sum e rs qs) (fixed_sum e rs ps) → AtMost e (comes e (items_of e (granted norm Long nl nt) rs) (part LongTerm rs qs)) (comes e (items_of e (granted norm Long nl nt) rs) (part LongTerm rs ps)) → AtMost e (comes e (items_of e (granted norm Short nl nt) rs) (part ShortTerm rs qs)) (comes e (items_of e (granted norm Short nl nt) rs) (part ShortTerm rs ps)) → AtMost e (comes e (items_of e full rs) (part Special rs qs)) (comes e (items_of e full rs) (part Special rs ps)) → AtMost e (by_parts rs qs) (by_parts rs ps)
+    pub parts_most : (rs : List (Record V)) (ps qs : List Pick) → length rs ≤ 32 → AllByRecursion (InRange e) rs → AtMost e (fixed_sum e rs qs) (fixed_sum e rs ps) → AtMost e (comes e (items_of e (granted norm Long nl nt) rs) (part LongTerm rs qs)) (comes e (items_of e (granted norm Long nl nt) rs) (part LongTerm rs ps)) → AtMost e (comes e (items_of e (granted norm Short nl nt) rs) (part ShortTerm rs qs)) (comes e (items_of e (granted norm Short nl nt) rs) (part ShortTerm rs ps)) → AtMost e (comes e (items_of e full rs) (part Special rs qs)) (comes e (items_of e full rs) (part Special rs ps)) → AtMost e (by_parts rs qs) (by_parts rs ps)
     parts_most rs ps qs few h ax al at aq =
         let all = kinds_sum rs in
         let gl = granted norm Long nl nt in
@@ -253,7 +253,7 @@ module _ {V : Type 0} {e : Operations V} (laws : Laws e) where
   factor_most ShortTerm q r = at_most_same laws e.nil e.nil refl
   factor_most Special q r = at_most_same laws e.nil e.nil refl
 
-  pub fixed_most : (rs : List (Record V)) (ps qs : List Pick) → length ps ≡ length rs → length qs ≡ length rs → length rs ≤ 32 → All (InRange e) rs → All (λ l. fixed e l.0.kind l.1 l.0 ≡ fixed e l.0.kind (best_factor e l.0) l.0) (lines rs ps) → AtMost e (fixed_sum e rs qs) (fixed_sum e rs ps)
+  pub fixed_most : (rs : List (Record V)) (ps qs : List Pick) → length ps ≡ length rs → length qs ≡ length rs → length rs ≤ 32 → AllByRecursion (InRange e) rs → AllByRecursion (λ l. fixed e l.0.kind l.1 l.0 ≡ fixed e l.0.kind (best_factor e l.0) l.0) (lines rs ps) → AtMost e (fixed_sum e rs qs) (fixed_sum e rs ps)
   fixed_most [] ps qs lp lq few h f = at_most_same laws e.nil e.nil refl
   fixed_most (r ∷ rs) [] qs lp lq few h f = absurd (omega arith)
   fixed_most (r ∷ rs) (p ∷ ps) [] lp lq few h f = absurd (omega arith)

@@ -1,6 +1,6 @@
 -- What a record contributes in each role, and the bounds within which sums are owed.
 use Rattle.std.specs.Prelude.{◌≡◌, ℕ, ◌*◌, ◌<◌, ◌≤◌, List, map, length, slice_index, slice_index_or}
-use Rattle.std.specs.List.{AllByRecursion as All}
+use Rattle.std.specs.List.{AllByRecursion}
 use Rattle.effect.specs.Laws.{Operations}
 use Rattle.loads.specs.declared.kinds.Kind.{Kind}
 use Rattle.loads.specs.declared.kinds.Kind.TheVariants.{Permanent, LongTerm, ShortTerm, Special}
@@ -50,7 +50,7 @@ pub record InRange {V : Type 0} (e : Operations V) (r : Record V) : Type 0 where
 
 pub record Kept {V : Type 0} (e : Operations V) (rs : List (Record V)) : Type 0 where
   pub few : length rs ≤ 32
-  pub in_range : All (InRange e) rs
+  pub in_range : AllByRecursion (InRange e) rs
 
 -- the weights are those of the records
 abbrev pub Weighed : {V : Type 0} → List ℕ → List (Record V) → Type 0

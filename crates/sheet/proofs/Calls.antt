@@ -1,7 +1,7 @@
 -- From the checks of a call to the causes of the ledger.
 use Rattle.std.proofs.Common.{◌≡◌, ℕ, ◌<◌, ◌≤◌, true, false, List, [], ◌∷◌, length, set, is_some, Some, None, Option, sym, subst, ⊎_elim, arith, MatchOption}
 use Rattle.std.proofs.lemmas.Bool.{cases_lt}
-use Rattle.std.specs.List.{HoldsAt, remove, AllByRecursion as All}
+use Rattle.std.specs.List.{HoldsAt, remove, AllByRecursion}
 use Rattle.effect.specs.Laws.{Operations}
 use Rattle.refusals.specs.Numbers.{number_of}
 use Rattle.sheet.specs.Checks.{LoadCause}
@@ -38,7 +38,7 @@ module _ {E : Type 0} where
   pub there : (n : ℕ) (s b : List (Record E)) → s ≡ b → (i : ℕ) → Place n s i → Missing n b → ⊥
   there n s b same i at missing =
       let at_i = place_split n s b same i at in
-      not_none (λ r. r.number ≡ n) at_i.front at_i.here at_i.back at_i.holds (subst (All (λ r. r.number ≡ n → ⊥)) at_i.whole missing)
+      not_none (λ r. r.number ≡ n) at_i.front at_i.here at_i.back at_i.holds (subst (AllByRecursion (λ r. r.number ≡ n → ⊥)) at_i.whole missing)
 
   pub altered : (n : ℕ) (s b : List (Record E)) → s ≡ b → (i : ℕ) → Place n s i → (new : Record E) → Replaced b n (new ∷ []) (set b i new)
   altered n s b same i at new = let at_i = place_split n s b same i at in (at_i.front, at_i.here, at_i.back, at_i.whole, at_i.holds, at_i.replaced new)

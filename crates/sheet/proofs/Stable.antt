@@ -1,7 +1,7 @@
 -- The rules of a record can be decided, so that a record that no cause speaks against keeps them.
 use Rattle.std.proofs.Common.{◌≡◌, ℕ, ◌<◌, ◌≤◌, ◌⊎◌, List, [], ◌∷◌, Some, None, Option, refl, ap, inl, inr, ⊎_elim, arith}
 use Rattle.std.proofs.lemmas.Bool.{cases_lt}
-use Rattle.std.specs.List.{AllByRecursion as All}
+use Rattle.std.specs.List.{AllByRecursion}
 use Rattle.effect.specs.Laws.{Operations}
 use Rattle.refusals.specs.declared.Refusal.TheVariants.{RecordNumber, LoadFactor, Reduction, Group, Reach}
 use Rattle.loads.specs.Letters.{letter_of}
@@ -76,24 +76,24 @@ group_stable Special g nn = eq_stable _ _ nn
 kind_stable : (j k : Kind) → Stable (j ≡ k)
 kind_stable j k nn = same_kind (letter_of k) j k (eq_stable _ _ (λ n. nn (λ e. n (ap letter_of e)))) refl
 
-all_stable : {X : Type 0} (P : X → Type 0) (xs : List X) → ((x : X) → Stable (P x)) → Stable (All P xs)
+all_stable : {X : Type 0} (P : X → Type 0) (xs : List X) → ((x : X) → Stable (P x)) → Stable (AllByRecursion P xs)
 all_stable P [] each nn = tt
 all_stable P (x ∷ xs) each nn = (each x (λ n. nn (λ h. n h.0)), all_stable P xs each (λ n. nn (λ h. n h.1)))
 
 -- that the records of a group are of one kind, beside the others
-agrees_stable : {E : Type 0} (own : Option ℕ) (k : Kind) (g : ℕ) (b : List (Record E)) → Stable (All (λ r. Other own r → Agrees k g r) b)
+agrees_stable : {E : Type 0} (own : Option ℕ) (k : Kind) (g : ℕ) (b : List (Record E)) → Stable (AllByRecursion (λ r. Other own r → Agrees k g r) b)
 agrees_stable own k g b = all_stable _ b (λ r nn other some same. kind_stable r.kind k (λ n. nn (λ h. n (h other some same))))
 
 module _ {E : Type 0} (o : Operations E) (p : ℕ) (b : List (Record E)) (n l : ℕ) (x : Load E) (k : Kind) (is : letter_of k ≡ l) where
   -- an accepted record agrees with the others in its group
-  pub enter_agrees : Clear (Cause o p b (Enter n l x)) → All (λ r. Agrees k x.group r) b
+  pub enter_agrees : Clear (Cause o p b (Enter n l x)) → AllByRecursion (λ r. Agrees k x.group r) b
   enter_agrees clear = all_map b (agrees_stable None k x.group b (λ not. clear Group (k, is, λ h. not h.1)))
     where
-      all_map : (b : List (Record E)) → All (λ r. Other None r → Agrees k x.group r) b → All (λ r. Agrees k x.group r) b
+      all_map : (b : List (Record E)) → AllByRecursion (λ r. Other None r → Agrees k x.group r) b → AllByRecursion (λ r. Agrees k x.group r) b
       all_map [] h = tt
       all_map (r ∷ b) h = (h.0 tt, all_map b h.1)
 
-  pub alter_agrees : Clear (Cause o p b (Alter n l x)) → All (λ r. Other (Some n) r → Agrees k x.group r) b
+  pub alter_agrees : Clear (Cause o p b (Alter n l x)) → AllByRecursion (λ r. Other (Some n) r → Agrees k x.group r) b
   alter_agrees clear = agrees_stable (Some n) k x.group b (λ not. clear Group (k, is, λ h. not h.1))
 
   -- the record of an accepted entry keeps the rules

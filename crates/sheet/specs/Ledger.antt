@@ -1,6 +1,6 @@
 -- The ledger of a sheet, a list of records: why a change is refused, and what an accepted one leaves.
 use Rattle.std.specs.Prelude.{◌≡◌, ℕ, ◌<◌, ◌≤◌, List, [], ◌∷◌, ◌++◌, length, Some, None, Ok, Err, Option, Result, ◌≢◌}
-use Rattle.std.specs.List.{AllByRecursion as All}
+use Rattle.std.specs.List.{AllByRecursion}
 use Rattle.effect.specs.Laws.{Operations}
 use Rattle.refusals.specs.Numbers.{number_of}
 use Rattle.refusals.specs.declared.Refusal.{Refusal}
@@ -28,7 +28,7 @@ Against l P = (k : Kind) × (letter_of k ≡ l) × (P k → ⊥)
 module _ {E : Type 0} where
   -- no record has the number n
   abbrev pub Missing : ℕ → List (Record E) → Type 0
-  Missing n b = All (λ r. r.number ≢ n) b
+  Missing n b = AllByRecursion (λ r. r.number ≢ n) b
 
   -- r is not the record that an alteration replaces
   abbrev pub Other : Option ℕ → Record E → Type 0
@@ -41,7 +41,7 @@ module _ {E : Type 0} where
 
   -- a record of the kind k may have the group g, by itself and beside the other records
   abbrev pub GroupRule : Option ℕ → ℕ → List (Record E) → Kind → Type 0
-  GroupRule own g b k = GroupIn k g × All (λ r. Other own r → Agrees k g r) b
+  GroupRule own g b k = GroupIn k g × AllByRecursion (λ r. Other own r → Agrees k g r) b
 
   -- the record number that a change names
   abbrev pub named : Change E → ℕ

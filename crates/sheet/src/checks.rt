@@ -1,6 +1,6 @@
 // The checks of one record, each by itself.
 ghost use Rattle.std.specs.Prelude.{◌≡◌, ◌<◌, length, Decides, MatchOption, MatchResult};
-ghost use Rattle.std.specs.List.{HoldsAt, AllByRecursion as All};
+ghost use Rattle.std.specs.List.{HoldsAt, AllByRecursion};
 ghost use Rattle.loads.specs.Letters.{letter_of};
 ghost use Rattle.loads.specs.Rules.{NumberIn, FactorsIn, ReductionIn, GroupIn, ReachIn};
 ghost use Rattle.sheet.specs.Checks.{LoadCause};
@@ -70,7 +70,7 @@ fn agrees<E: Effect>(beside: &Record<E>, own: Option<u64>, kind: Kind, group: u6
 
 // Whether the records of a group are all of this kind; the record numbered `own` is left out.
 fn group_fits<E: Effect>(records: &[Record<E>], own: Option<u64>, kind: Kind, group: u64) -> bool
-    ensures { Decides result (All (λ b. Other own b → Agrees kind group b) records.now) }
+    ensures { Decides result (AllByRecursion (λ b. Other own b → Agrees kind group b) records.now) }
 {
     for beside in records {
         if !agrees(beside, own, kind, group) {

@@ -1,7 +1,7 @@
 -- A text that is read is what is written of its records.
 -- Assumes nothing.
 use Rattle.std.proofs.Common.{◌≡◌, ℕ, List, [], ◌∷◌, ◌++◌, map, Ok, sym, refl, ap, ◌∙◌, subst, append_assoc, append-nil}
-use Rattle.std.specs.List.{AllByRecursion as All}
+use Rattle.std.specs.List.{AllByRecursion}
 use Rattle.effect.specs.Laws.{Operations}
 use Rattle.effect.specs.Notations.{Notation}
 use Rattle.loads.specs.declared.kinds.Kind.{Kind}
@@ -16,7 +16,7 @@ use Rattle.sheet_text.specs.Texts.{Bodies, SheetText, TextOf, counted, entered, 
 record Added {E : Type 0} (w : Notation E) (b : List (Record E)) (kinds : List Kind) (text : List ℕ) (c : List (Record E)) : Type 0 where
   new : List (Record E)
   held : c ≡ b ++ new
-  legible : All (λ r. LegibleBody w (r.number, r.load)) new
+  legible : AllByRecursion (λ r. LegibleBody w (r.number, r.load)) new
   of_kinds : map (λ r. r.kind) new ≡ kinds
   lines : text ≡ body_lines w new
 
@@ -42,7 +42,7 @@ module _ {E : Type 0} (o : Operations E) (w : Notation E) (p : ℕ) where
       record {
         counts = counts;
         few = few;
-        legible = subst (All (λ r. LegibleBody w (r.number, r.load))) same all.legible;
+        legible = subst (AllByRecursion (λ r. LegibleBody w (r.number, r.load))) same all.legible;
         kinds = ap (map (λ r. r.kind)) (sym same) ∙ all.of_kinds;
         whole = line ∙ ap (counts_line counts) (all.lines ∙ ap (body_lines w) same);
       }

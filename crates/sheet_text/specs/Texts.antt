@@ -1,6 +1,6 @@
 -- What comes of a sheet's text: its lines are read from the first on, and the first faulty line ends it.
 use Rattle.std.specs.Prelude.{◌≡◌, ℕ, ◌+◌, ◌<◌, ◌≤◌, min, List, [], ◌∷◌, map, length, Ok, Err, Result, ◌≢◌}
-use Rattle.std.specs.List.{AllByRecursion as All}
+use Rattle.std.specs.List.{AllByRecursion}
 use Rattle.effect.specs.Laws.{Operations}
 use Rattle.effect.specs.Notations.{Notation}
 use Rattle.refusals.specs.declared.Refusal.{Refusal}
@@ -73,7 +73,7 @@ pub data WholeText {E : Type 0} (o : Operations E) (w : Notation E) (p : ℕ) : 
 pub record TextOf {E : Type 0} (w : Notation E) (text : List ℕ) (b : List (Record E)) : Type 0 where
   pub counts : Counts
   pub few : LegibleCounts counts
-  pub legible : All (λ r. LegibleBody w (r.number, r.load)) b
+  pub legible : AllByRecursion (λ r. LegibleBody w (r.number, r.load)) b
   pub kinds : map (λ r. r.kind) b ≡ due counts
   pub whole : text ≡ counts_line counts (body_lines w b)
 
