@@ -6,12 +6,12 @@ use Rattle.norm.specs.Percentages.{Percentages}
 use Rattle.norm.specs.declared.roles.Role.TheVariants.{Leading, Second, Other}
 use Rattle.combination.specs.Choices.{Line, taken}
 use Rattle.combination.specs.Computing.{AskedFor}
-use Rattle.combination.specs.declared.percents.PercentTable.{PercentTable}
+use Rattle.combination.specs.declared.percents.Table.{Table}
 use Rattle.answer_lines.specs.Lines.{sections}
 use Rattle.answer_lines.specs.declared.sections.Section.{Section}
 use Rattle.answer_lines.specs.declared.sections.Section.TheVariants.{Factors, InRole, Taken}
 
-abbrev pub tabled : PercentTable → List Section
+abbrev pub tabled : Table → List Section
 tabled t =
     Factors
     ∷ InRole LongTerm Leading t.long.leading
@@ -23,7 +23,7 @@ tabled t =
     ∷ Taken
     ∷ []
 
-pub tabled_is : {E : Type 0} (norm : Percentages) (ls : List (Line E)) (t : PercentTable) → AskedFor norm ls t → tabled t ≡ sections norm (taken LongTerm ls) (taken ShortTerm ls)
+pub tabled_is : {E : Type 0} (norm : Percentages) (ls : List (Line E)) (t : Table) → AskedFor norm ls t → tabled t ≡ sections norm (taken LongTerm ls) (taken ShortTerm ls)
 tabled_is norm ls t asked =
     λ i.
     Factors

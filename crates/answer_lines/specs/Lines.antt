@@ -21,7 +21,7 @@ abbrev pub question_word : Question → List ℕ
 question_word Basic = codes "BASIC"
 question_word WithSpecial = codes "SPECIAL"
 
--- P in sheet order, L by role, T by role, those of role 3 in sheet order, and S last, where nl long_term_counts and nt short_term_counts loads are taken
+-- P in sheet order, L by role, T by role, those of role 3 in sheet order, and S last, where nl long-term and nt short-term loads are taken
 abbrev pub sections : Percentages → ℕ → ℕ → List Section
 sections norm nl nt =
     Factors

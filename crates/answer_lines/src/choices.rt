@@ -6,7 +6,7 @@ ghost use Rattle.writing.specs.Writing.{Writes};
 ghost use Rattle.answer_lines.specs.Lines.{choice_text, sections_text};
 
 use crate::sections::{Section, write_section};
-use combination::{PercentTable, Pick};
+use combination::{Pick, Table};
 use loads::{Kind, Record};
 use norm::Role;
 use writing::Writer;
@@ -21,12 +21,7 @@ fn write_sections<E>(out: &mut Writer, sections: &[Section], records: &[Record<E
 }
 
 // A choice, by the percentages that any norm has for the numbers that it takes.
-pub(crate) fn write_choice<E>(
-    out: &mut Writer,
-    table: PercentTable,
-    records: &[Record<E>],
-    picks: &[Pick],
-)
+pub(crate) fn write_choice<E>(out: &mut Writer, table: Table, records: &[Record<E>], picks: &[Pick])
     ensures { (norm : Percentages) → AskedFor norm (lines records.now picks.now) table → Writes out.old (choice_text norm (lines records.now picks.now)) out.new }
 {
     let sections = [

@@ -1,11 +1,11 @@
 // The records of a choice that are shown together.
 ghost use Rattle.std.specs.Prelude.{◌≡◌, [], ◌∷◌, ◌++◌, if◌then◌else◌, decimal};
 ghost use Rattle.norm.specs.Roles.{role_number};
-ghost use Rattle.combination.specs.Choices.{is_lower, lines, role as role-of};
+ghost use Rattle.combination.specs.Choices.{is_lower, lines, role as role_of_pick};
 ghost use Rattle.loads.specs.Letters.{letter_of};
 ghost use Rattle.writing.specs.Writing.{Writes};
 ghost use Rattle.lines.specs.Reading.{spaced};
-ghost use Rattle.answer_lines.specs.Lines.{details, line_text, section_text, shows as is-shown};
+ghost use Rattle.answer_lines.specs.Lines.{details, line_text, section_text, shows as is_shown_line};
 
 use combination::Pick;
 use loads::{Kind, Record};
@@ -25,7 +25,7 @@ pub(crate) enum Section {
 impl Section {
     // Whether it shows a record.
     fn shows<E>(self, of: &Record<E>, pick: Pick) -> bool
-        ensures { result ≡ is-shown self (of.now, pick) }
+        ensures { result ≡ is_shown_line self (of.now, pick) }
     {
         match self {
             Section::Factors => of.kind == Kind::Permanent,
@@ -76,7 +76,7 @@ fn write_line<E>(out: &mut Writer, section: Section, of: &Record<E>, pick: Pick)
 
 // The same, where the section shows the record.
 fn write_if_shown<E>(out: &mut Writer, section: Section, of: &Record<E>, pick: Pick)
-    ensures { Writes out.old (if is-shown section (of.now, pick) then line_text section (of.now, pick) else []) out.new }
+    ensures { Writes out.old (if is_shown_line section (of.now, pick) then line_text section (of.now, pick) else []) out.new }
 {
     if section.shows(of, pick) {
         write_line(out, section, of, pick);

@@ -1,4 +1,4 @@
--- AllByRecursion lists of picks that fit records.
+-- All lists of picks that fit records.
 use Rattle.std.proofs.Common.{◌≡◌, suc, ◌⊎◌, List, [], ◌∷◌, ◌++◌, map, length, sym, refl, ap, subst, inl, inr, arith}
 use Rattle.std.specs.List.{AllByRecursion}
 use Rattle.combination.specs.Lists.{Among}

@@ -16,7 +16,7 @@ use Rattle.loads.specs.declared.kinds.Kind.{Kind}
 use Rattle.loads.specs.declared.kinds.Kind.TheVariants.{Permanent, LongTerm, ShortTerm, Special}
 use Rattle.loads.specs.declared.records.Record.{Record}
 
--- only a short_term_counts load is reduced
+-- only a short-term load is reduced
 abbrev pub Reduction : Kind → ℕ → Type 0
 Reduction Permanent f = f ≡ 10000
 Reduction LongTerm f = f ≡ 10000

@@ -15,14 +15,14 @@ use Rattle.combination.specs.Choices.{Line, lines, is_taken, role}
 use Rattle.combination.specs.Computing.{Asked, AskedFor, Bounded, by_role, by_table}
 use Rattle.combination.specs.Worst.{factor, contribution, contributions, comes_to}
 use Rattle.combination.specs.declared.percents.Percents.{Percents}
-use Rattle.combination.specs.declared.percents.PercentTable.{PercentTable}
+use Rattle.combination.specs.declared.percents.Table.{Table}
 use Rattle.combination.specs.declared.picks.Pick.{Pick}
 use Rattle.combination.specs.declared.picks.Pick.TheVariants.{Upper, Lower, Out, As, Taken}
 use Rattle.combination.proofs.Contributions.{within}
 use Rattle.combination.proofs.Places.{length_lines, map_lines_at}
 use Rattle.combination.proofs.Ranges.{AtMostWhole, Kept, whole}
 
-pub whole_table : (t : PercentTable) → Bounded t.long → Bounded t.short → AtMostWhole (by_table t)
+pub whole_table : (t : Table) → Bounded t.long → Bounded t.short → AtMostWhole (by_table t)
 whole_table t long short Long i nl nt = long i
 whole_table t long short Short i nl nt = short i
 
@@ -68,7 +68,7 @@ module _ (norm : Percentages) (ranged : Ranged norm) (nl nt : ℕ) where
     same_percent (As Other) = asked.other
     same_percent Taken = none
 
-  module _ {E : Type 0} (o : Operations E) (t : PercentTable) (long : Asked norm Long nl nt t.long) (short : Asked norm Short nl nt t.short) where
+  module _ {E : Type 0} (o : Operations E) (t : Table) (long : Asked norm Long nl nt t.long) (short : Asked norm Short nl nt t.short) where
     same_by : (p : Pick) (x : Record E) (m n : ℕ) → m ≡ n → cond (is_taken p) (o.times (x.load.upper * factor x * m) x.load.effect) o.nil ≡ cond (is_taken p) (o.times (x.load.upper * factor x * n) x.load.effect) o.nil
     same_by p x m n e = ap (λ k. cond (is_taken p) (o.times (x.load.upper * factor x * k) x.load.effect) o.nil) e
 
@@ -83,7 +83,7 @@ module _ (norm : Percentages) (ranged : Ranged norm) (nl nt : ℕ) where
     same_contributions (l ∷ ls) = ap₂ ◌∷◌ (same_at l.0.kind l.1 l.0) (same_contributions ls)
 
 -- the end of the loop
-pub summed : {E : Type 0} (o : Operations E) → Laws o → (norm : Percentages) (records : List (Record E)) (picks : List Pick) (t : PercentTable) → AskedFor norm (lines records picks) t → (i : ℕ) (sum : E) → min (length records) (length picks) ≤ i
+pub summed : {E : Type 0} (o : Operations E) → Laws o → (norm : Percentages) (records : List (Record E)) (picks : List Pick) (t : Table) → AskedFor norm (lines records picks) t → (i : ℕ) (sum : E) → min (length records) (length picks) ≤ i
     → (Bounded t.long → Bounded t.short → sum ≡ total o (take i (contributions o (by_table t) 0 0 (lines records picks)))) → sum ≡ comes_to o norm (lines records picks)
 summed o laws norm records picks t asked i sum past h =
     let ls = lines records picks in

@@ -11,7 +11,7 @@ use Rattle.combination.specs.Choices.{Line, is_of_kind, is_taken, role, taken}
 use Rattle.combination.specs.Lists.{count}
 use Rattle.combination.specs.declared.picks.Pick.{Pick}
 use Rattle.combination.specs.declared.percents.Percents.{Percents}
-use Rattle.combination.specs.declared.percents.PercentTable.{PercentTable}
+use Rattle.combination.specs.declared.percents.Table.{Table}
 
 -- whether a pick takes its record, in a role where one is given
 abbrev pub is_counted_pick : Option Role → Pick → Bool
@@ -36,12 +36,12 @@ by_role ps i = cond (i == 1) ps.leading (cond (i == 2) ps.second (cond (i == 3) 
 abbrev pub Bounded : Percents → Type 0
 Bounded ps = (i : ℕ) → by_role ps i ≤ 100
 
-abbrev pub by_table : PercentTable → Percentages
+abbrev pub by_table : Table → Percentages
 by_table t Long i nl nt = by_role t.long i
 by_table t Short i nl nt = by_role t.short i
 
 -- the percentages of a norm for the numbers that a choice takes
-pub record AskedFor {E : Type 0} (norm : Percentages) (ls : List (Line E)) (t : PercentTable) : Type 0 where
+pub record AskedFor {E : Type 0} (norm : Percentages) (ls : List (Line E)) (t : Table) : Type 0 where
   pub ranged : Ranged norm
   pub long : Asked norm Long (taken LongTerm ls) (taken ShortTerm ls) t.long
   pub short : Asked norm Short (taken LongTerm ls) (taken ShortTerm ls) t.short

@@ -10,7 +10,7 @@ use Rattle.loads.specs.declared.kinds.Kind.{Kind}
 use Rattle.loads.specs.declared.kinds.Kind.TheVariants.{Permanent, LongTerm, ShortTerm, Special}
 use Rattle.loads.specs.declared.records.Record.{Record}
 
--- the design load of a long_term_counts, short_term_counts or special load is its effect times the upper factor times F;
+-- the design load of a long-term, short-term or special load is its effect times the upper factor times F;
 -- a permanent load has two, by its upper and by its lower factor, times 10000
 abbrev pub design_loads : {E : Type 0} → Operations E → Kind → Record E → List E
 design_loads o Permanent r = o.times (r.load.upper * 10000) r.load.effect ∷ o.times (r.load.lower * 10000) r.load.effect ∷ []

@@ -23,7 +23,7 @@ module _ {E : Type 0} (o : Operations E) where
   abbrev pub permanent : Pick → Record E → E
   permanent p r = o.times (cond (is_lower p) r.load.lower r.load.upper * 1000000) r.load.effect
 
-  -- a long_term_counts or short_term_counts load counts where it is taken, by the percentage for its role
+  -- a long-term or short-term load counts where it is taken, by the percentage for its role
   abbrev pub temporary : (ℕ → ℕ) → Pick → Record E → E
   temporary percent p r = cond (is_taken p) (o.times (r.load.upper * factor r * percent (role p)) r.load.effect) o.nil
 
@@ -31,7 +31,7 @@ module _ {E : Type 0} (o : Operations E) where
   abbrev pub special : Pick → Record E → E
   special p r = cond (is_taken p) (o.times (r.load.upper * 1000000) r.load.effect) o.nil
 
-  -- what a record of a kind contributes, where nl long_term_counts and nt short_term_counts loads are taken
+  -- what a record of a kind contributes, where nl long-term and nt short-term loads are taken
   abbrev pub contribution : Percentages → ℕ → ℕ → Kind → Pick → Record E → E
   contribution norm nl nt Permanent p r = permanent p r
   contribution norm nl nt LongTerm p r = temporary (λ i. norm Long i nl nt) p r

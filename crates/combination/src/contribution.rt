@@ -6,7 +6,7 @@ ghost use Rattle.combination.specs.Choices.{is_lower};
 ghost use Rattle.combination.specs.Computing.{Bounded, by_role, by_table};
 ghost use Rattle.combination.specs.Worst.{permanent as always, temporary as in_role, special as if_taken, contribution as contributed};
 
-use crate::percents::{PercentTable, Percents};
+use crate::percents::{Percents, Table};
 use crate::picks::Pick;
 use effect::{Effect, multiple_if};
 use loads::{Kind, Record};
@@ -45,7 +45,7 @@ fn permanent<E: Effect>(pick: Pick, of: &Record<E>) -> E
     weighted(of.load.effect, factor, 1_000_000, true)
 }
 
-// A long_term_counts or short_term_counts load counts where it is taken, reduced and by the percentage of its role.
+// A long-term or short-term load counts where it is taken, reduced and by the percentage of its role.
 fn temporary<E: Effect>(percents: Percents, pick: Pick, of: &Record<E>) -> E
     ensures { Ruled E.Effect.means of.now → Bounded percents → result ≡ in_role E.Effect.means (by_role percents) pick of.now }
 {
@@ -61,8 +61,8 @@ fn special<E: Effect>(pick: Pick, of: &Record<E>) -> E
     weighted(of.load.effect, of.load.upper, 1_000_000, pick.is_taken())
 }
 
-// What a record contributes, a long_term_counts or short_term_counts load by the percentage of its role in the table.
-pub(crate) fn contribution<E: Effect>(table: &PercentTable, pick: Pick, of: &Record<E>) -> E
+// What a record contributes, a long-term or short-term load by the percentage of its role in the table.
+pub(crate) fn contribution<E: Effect>(table: &Table, pick: Pick, of: &Record<E>) -> E
     ensures { Ruled E.Effect.means of.now → Bounded table.now.long → Bounded table.now.short → result ≡ contributed E.Effect.means (by_table table.now) 0 0 of.now.kind pick of.now }
 {
     match of.kind {

@@ -30,7 +30,7 @@ fn permanent(number: u64, force: i64, upper: u64, lower: u64) -> Record<N>
     }
 }
 
-// A short_term_counts load of a group; class 0 is not reduced.
+// A short-term load of a group; class 0 is not reduced.
 fn short_term(number: u64, group: u64, force: i64, upper: u64, class: u64, area: u64) -> Record<N>
     ensures { result ≡ short_term_load number group force upper class area }
 {

@@ -16,7 +16,7 @@ mod totals;
 pub use admissible::is_admissible;
 pub use answers::Answer;
 pub use examples::{TwoLists, entered_two_ways};
-pub use percents::{PercentTable, Percents};
+pub use percents::{Percents, Table};
 pub use picks::Pick;
 pub use questions::Question;
 pub use totals::{basic_table, comes_to, special_comes_to, special_table};

@@ -14,7 +14,7 @@ pub struct Percents {
 
 // Those of both terms.
 #[derive(Clone, Copy)]
-pub struct PercentTable {
+pub struct Table {
     pub long: Percents,
     pub short: Percents,
 }

@@ -1,6 +1,6 @@
 // What a choice does with one record.
 ghost use Rattle.std.specs.Prelude.{◌≡◌};
-ghost use Rattle.combination.specs.Choices.{is_taken, is_lower, role as role-of};
+ghost use Rattle.combination.specs.Choices.{is_taken, is_lower, role as role_of_pick};
 
 use norm::Role;
 
@@ -12,7 +12,7 @@ pub enum Pick {
     Lower,
     // any other load, left out
     Out,
-    // a long_term_counts or short_term_counts load, taken in a role
+    // a long-term or short-term load, taken in a role
     As(Role),
     // a special load, taken
     Taken,
@@ -41,7 +41,7 @@ impl Pick {
 
     // The number of the role, 0 for none.
     pub fn role(self) -> u64
-        ensures { result ≡ role-of self }
+        ensures { result ≡ role_of_pick self }
     {
         match self {
             Pick::As(role) => role.number(),

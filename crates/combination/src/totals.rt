@@ -6,14 +6,14 @@ ghost use Rattle.combination.specs.Computing.{AskedFor};
 
 use crate::contribution::contribution;
 use crate::counts::count;
-use crate::percents::{PercentTable, basic_percents, special_percents};
+use crate::percents::{Table, basic_percents, special_percents};
 use crate::picks::Pick;
 use effect::Effect;
 use loads::{Kind, Record};
 use norm::{Norm, SpecialNorm, Term};
 
 // The sum of what the records contribute, by a table that was asked of any norm.
-fn sum_contributions<E: Effect>(table: &PercentTable, records: &[Record<E>], picks: &[Pick]) -> E
+fn sum_contributions<E: Effect>(table: &Table, records: &[Record<E>], picks: &[Pick]) -> E
     ensures { (norm : Percentages) → AskedFor norm (lines records.now picks.now) table.now → Combined E.Effect.means norm records.now picks.now result }
 {
     let mut sum = E::zero();
@@ -24,28 +24,24 @@ fn sum_contributions<E: Effect>(table: &PercentTable, records: &[Record<E>], pic
 }
 
 // The percentages of a basic combination, for the numbers that a choice takes.
-pub fn basic_table<E, M: Norm>(norm: &M, records: &[Record<E>], picks: &[Pick]) -> PercentTable
+pub fn basic_table<E, M: Norm>(norm: &M, records: &[Record<E>], picks: &[Pick]) -> Table
     ensures { AskedFor (M.Norm.percentages norm.now) (lines records.now picks.now) result }
 {
     let long = count(Kind::LongTerm, None, records, picks);
     let short = count(Kind::ShortTerm, None, records, picks);
-    PercentTable {
+    Table {
         long: basic_percents(norm, Term::Long, long, short),
         short: basic_percents(norm, Term::Short, long, short),
     }
 }
 
 // Those of a special combination.
-pub fn special_table<E, M: SpecialNorm>(
-    norm: &M,
-    records: &[Record<E>],
-    picks: &[Pick],
-) -> PercentTable
+pub fn special_table<E, M: SpecialNorm>(norm: &M, records: &[Record<E>], picks: &[Pick]) -> Table
     ensures { AskedFor (M.SpecialNorm.special norm.now) (lines records.now picks.now) result }
 {
     let long = count(Kind::LongTerm, None, records, picks);
     let short = count(Kind::ShortTerm, None, records, picks);
-    PercentTable {
+    Table {
         long: special_percents(norm, Term::Long, long, short),
         short: special_percents(norm, Term::Short, long, short),
     }

@@ -64,7 +64,7 @@ fn percentage(
 }
 
 impl NormRow {
-    // The row of a norm, where `long` long_term_counts and `short` short_term_counts loads are taken.
+    // The row of a norm, where `long` long-term and `short` short-term loads are taken.
     pub fn of_counts(
         norm: NormName,
         combination: Combination,
@@ -99,7 +99,7 @@ impl fmt::Display for NormRow {
     }
 }
 
-// The rows of a norm: basic and then special, long_term_counts and then short_term_counts.
+// The rows of a norm: basic and then special, long-term and then short-term.
 pub fn norm_rows(norm: NormName, long: u64, short: u64) -> [NormRow; 4]
     ensures { result ≡ rows_of norm long short }
 {

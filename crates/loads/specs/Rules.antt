@@ -27,14 +27,14 @@ Reduced class area storeys = (1 ≤ class) × (class ≤ 2) × Sized area storey
 abbrev pub Plain : ℕ → ℕ → ℕ → Type 0
 Plain class area storeys = (class ≡ 0) × (area ≡ 0) × (storeys ≡ 0)
 
--- only a short_term_counts load is reduced
+-- only a short-term load is reduced
 abbrev pub ReductionIn : Kind → ℕ → ℕ → ℕ → Type 0
 ReductionIn Permanent class area storeys = Plain class area storeys
 ReductionIn LongTerm class area storeys = Plain class area storeys
 ReductionIn ShortTerm class area storeys = Plain class area storeys ⊎ Reduced class area storeys
 ReductionIn Special class area storeys = Plain class area storeys
 
--- a group other than 0 is for long_term_counts and short_term_counts loads only
+-- a group other than 0 is for long-term and short-term loads only
 abbrev pub GroupIn : Kind → ℕ → Type 0
 GroupIn Permanent g = g ≡ 0
 GroupIn LongTerm g = g ≤ 99

@@ -1,4 +1,4 @@
--- The percentages of a norm, by term, role, number of long_term_counts and number of short_term_counts loads taken.
+-- The percentages of a norm, by term, role, number of long-term and number of short-term loads taken.
 use Rattle.std.specs.Prelude.{◌≡◌, ℕ, ◌≤◌, Bool, true, false, ◌&&◌, nat_le}
 use Rattle.norm.specs.declared.terms.Term.{Term}
 use Rattle.norm.specs.declared.terms.Term.TheVariants.{Long, Short}

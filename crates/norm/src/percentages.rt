@@ -5,7 +5,7 @@ ghost use Rattle.norm.specs.Percentages.{Percentages, Ranged, inside};
 use crate::terms::Term;
 
 // The percentage of a load in a basic combination, by its term, the number of its role (1 leading, 2 second, 3 other) and
-// the numbers of long_term_counts and short_term_counts loads taken. It depends on the norm's value and these alone; outside the ranges it is 0.
+// the numbers of long-term and short-term loads taken. It depends on the norm's value and these alone; outside the ranges it is 0.
 pub trait Norm {
     ghost percentages: { Self → Percentages };
 

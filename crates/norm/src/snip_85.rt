@@ -1,5 +1,5 @@
 // SNIP85: percentages by whether a load is taken alone, from the clause on combination factors of SNiP 2.01.07-85
-// without its note on three and more short_term_counts loads.
+// without its note on three and more short-term loads.
 ghost use Rattle.norm.specs.Tables.{snip85, snip85_special};
 ghost use Rattle.std.proofs.Common.{rules};
 

@@ -1,8 +1,8 @@
 // How long a load acts.
 #[derive(Clone, Copy, PartialEq, Eq, Debug)]
 pub enum Term {
-    // long_term_counts
+    // long-term
     Long,
-    // short_term_counts
+    // short-term
     Short,
 }

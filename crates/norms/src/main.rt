@@ -1,4 +1,4 @@
-// Prints the percentages of both norms for each line `NL NT` of standard input, the numbers of long_term_counts and short_term_counts loads taken.
+// Prints the percentages of both norms for each line `NL NT` of standard input, the numbers of long-term and short-term loads taken.
 #![tactic(auto)]
 
 use lines::number_lines::NumberLines;

@@ -12,60 +12,60 @@ use Rattle.combination.specs.Lists.{count}
 use Rattle.questions.specs.Parts.{plain, lone, role_at, part, mask}
 use Rattle.combination.specs.declared.picks.Pick.{Pick}
 use Rattle.combination.specs.declared.picks.Pick.TheVariants as pick
-use Rattle.norm.specs.declared.roles.Role.TheVariants as norm-role
+use Rattle.norm.specs.declared.roles.Role.TheVariants as norm_role
 
 pub plain_taken : (p : Pick) → takes (plain p) ≡ cond (is_taken p) 1 0
 plain_taken pick.Upper = refl
 plain_taken pick.Lower = refl
 plain_taken pick.Out = refl
-plain_taken (pick.As norm-role.Leading) = refl
-plain_taken (pick.As norm-role.Second) = refl
-plain_taken (pick.As norm-role.Other) = refl
+plain_taken (pick.As norm_role.Leading) = refl
+plain_taken (pick.As norm_role.Second) = refl
+plain_taken (pick.As norm_role.Other) = refl
 plain_taken pick.Taken = refl
 
 plain_leads : (p : Pick) → leads (plain p) ≡ cond (eqb (role p) 1) 1 0
 plain_leads pick.Upper = refl
 plain_leads pick.Lower = refl
 plain_leads pick.Out = refl
-plain_leads (pick.As norm-role.Leading) = refl
-plain_leads (pick.As norm-role.Second) = refl
-plain_leads (pick.As norm-role.Other) = refl
+plain_leads (pick.As norm_role.Leading) = refl
+plain_leads (pick.As norm_role.Second) = refl
+plain_leads (pick.As norm_role.Other) = refl
 plain_leads pick.Taken = refl
 
 plain_seconds : (p : Pick) → seconds (plain p) ≡ cond (eqb (role p) 2) 1 0
 plain_seconds pick.Upper = refl
 plain_seconds pick.Lower = refl
 plain_seconds pick.Out = refl
-plain_seconds (pick.As norm-role.Leading) = refl
-plain_seconds (pick.As norm-role.Second) = refl
-plain_seconds (pick.As norm-role.Other) = refl
+plain_seconds (pick.As norm_role.Leading) = refl
+plain_seconds (pick.As norm_role.Second) = refl
+plain_seconds (pick.As norm_role.Other) = refl
 plain_seconds pick.Taken = refl
 
 pub lone_taken : (p : Pick) → takes (lone p) ≡ cond (is_taken p) 1 0
 lone_taken pick.Upper = refl
 lone_taken pick.Lower = refl
 lone_taken pick.Out = refl
-lone_taken (pick.As norm-role.Leading) = refl
-lone_taken (pick.As norm-role.Second) = refl
-lone_taken (pick.As norm-role.Other) = refl
+lone_taken (pick.As norm_role.Leading) = refl
+lone_taken (pick.As norm_role.Second) = refl
+lone_taken (pick.As norm_role.Other) = refl
 lone_taken pick.Taken = refl
 
 lone_leads : (p : Pick) → leads (lone p) ≡ cond (is_taken p) 1 0
 lone_leads pick.Upper = refl
 lone_leads pick.Lower = refl
 lone_leads pick.Out = refl
-lone_leads (pick.As norm-role.Leading) = refl
-lone_leads (pick.As norm-role.Second) = refl
-lone_leads (pick.As norm-role.Other) = refl
+lone_leads (pick.As norm_role.Leading) = refl
+lone_leads (pick.As norm_role.Second) = refl
+lone_leads (pick.As norm_role.Other) = refl
 lone_leads pick.Taken = refl
 
 lone_seconds : (p : Pick) → seconds (lone p) ≡ cond false 1 0
 lone_seconds pick.Upper = refl
 lone_seconds pick.Lower = refl
 lone_seconds pick.Out = refl
-lone_seconds (pick.As norm-role.Leading) = refl
-lone_seconds (pick.As norm-role.Second) = refl
-lone_seconds (pick.As norm-role.Other) = refl
+lone_seconds (pick.As norm_role.Leading) = refl
+lone_seconds (pick.As norm_role.Second) = refl
+lone_seconds (pick.As norm_role.Other) = refl
 lone_seconds pick.Taken = refl
 
 head_count : (f : Assignment → ℕ) (t : Bool) (x : Assignment) (b : Bool) → f Out ≡ 0 → f x ≡ cond t 1 0 → f (cond b x Out) ≡ cond (b && t) 1 0

@@ -44,7 +44,7 @@ module _ {V : Type 0} (e : Operations V) (norm : Percentages) (q : Question) (rs
         p;
   }
 
-  -- the next number of long_term_counts loads, with more short_term_counts loads than any choice takes
+  -- the next number of long-term loads, with more short-term loads than any choice takes
   pub covers_across : (nl shorts : ℕ) (o : Option (Candidate V)) → Limits q rs ShortTerm shorts → Covers e norm q rs (Since (nl + 1) 0) o → Covers e norm q rs (Since nl (shorts + 1)) o
   covers_across nl shorts o limit c = record {
     shown = c.shown;

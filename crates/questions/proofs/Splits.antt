@@ -25,7 +25,7 @@ use Rattle.questions.specs.Parts.{plain, lone, role_at, part, granted, fixed, fi
 use Rattle.combination.specs.Worst.{factor, permanent, temporary, special, contribution, contributions}
 use Rattle.combination.specs.declared.picks.Pick.{Pick}
 use Rattle.combination.specs.declared.picks.Pick.TheVariants as pick
-use Rattle.norm.specs.declared.roles.Role.TheVariants as norm-role
+use Rattle.norm.specs.declared.roles.Role.TheVariants as norm_role
 
 not_plain : Among (picks_for LongTerm) pick.Taken → ⊥
 not_plain (inl h) = let z : ◌≡◌ {A = ℕ} 0 1 = cc in omega arith
@@ -103,9 +103,9 @@ module _ {V : Type 0} {e : Operations V} (laws : Laws e) where
     worth_plain t pick.Upper r h = refl
     worth_plain t pick.Lower r h = refl
     worth_plain t pick.Out r h = refl
-    worth_plain t (pick.As norm-role.Leading) r h = refl
-    worth_plain t (pick.As norm-role.Second) r h = refl
-    worth_plain t (pick.As norm-role.Other) r h = refl
+    worth_plain t (pick.As norm_role.Leading) r h = refl
+    worth_plain t (pick.As norm_role.Second) r h = refl
+    worth_plain t (pick.As norm_role.Other) r h = refl
     worth_plain t pick.Taken r h = absurd (not_plain h)
 
     whole_share : (r : Record V) → factor r ≡ 10000 → e.times (r.load.upper * 1000000) r.load.effect ≡ e.times (r.load.upper * factor r * 100) r.load.effect
@@ -117,9 +117,9 @@ module _ {V : Type 0} {e : Operations V} (laws : Laws e) where
     worth_lone pick.Upper r h = refl
     worth_lone pick.Lower r h = refl
     worth_lone pick.Out r h = refl
-    worth_lone (pick.As norm-role.Leading) r h = whole_share r h
-    worth_lone (pick.As norm-role.Second) r h = whole_share r h
-    worth_lone (pick.As norm-role.Other) r h = whole_share r h
+    worth_lone (pick.As norm_role.Leading) r h = whole_share r h
+    worth_lone (pick.As norm_role.Second) r h = whole_share r h
+    worth_lone (pick.As norm_role.Other) r h = whole_share r h
     worth_lone pick.Taken r h = whole_share r h
 
     -- one record's contribution, put among the parts
@@ -237,7 +237,7 @@ module _ {V : Type 0} {e : Operations V} (laws : Laws e) where
         (plus_at_most laws (L qs) (L ps) (e.plus (T qs) (S qs)) (e.plus (T ps) (S ps)) (omega arith) (omega arith) al
         (plus_at_most laws (T qs) (T ps) (S qs) (S ps) (omega arith) (omega arith) at aq))
 
-  -- the chosen best_factor comes to no less than the other
+  -- the chosen best-factor comes to no less than the other
   factor_most : (kd : Kind) (q : Pick) (r : Record V) → AtMost e (fixed e kd q r) (fixed e kd (best_factor e r) r)
   factor_most Permanent q r = side (is_lower q)
     where

@@ -1,4 +1,4 @@
--- What a change of one pick does to a choice's counts, reach_sum and effect.
+-- What a change of one pick does to a choice's counts, reach-sum and effect.
 use Rattle.std.proofs.Common.{◌≡◌, ℕ, zero, suc, ◌+◌, ◌<◌, ◌≤◌, List, [], ◌∷◌, length, get_or, take, drop, set, sym, refl, ap, ◌∙◌, subst, arith}
 use Rattle.std.proofs.lemmas.List.{drop_more, length-take-le, get_or-take}
 use Rattle.effect.specs.Laws.{Operations, Laws, limit}

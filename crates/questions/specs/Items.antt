@@ -34,7 +34,7 @@ item_of e s r = record {
 abbrev pub items_of : {V : Type 0} → Operations V → Percents → List (Record V) → List (Item V)
 items_of e s rs = map (item_of e s) rs
 
--- only a short_term_counts load is reduced
+-- only a short-term load is reduced
 abbrev pub Reduction : Kind → ℕ → Type 0
 Reduction Permanent f = f ≡ 10000
 Reduction LongTerm f = f ≡ 10000

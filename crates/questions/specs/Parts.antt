@@ -15,16 +15,16 @@ use Rattle.combination.specs.Choices.{is_of_kind}
 use Rattle.combination.specs.Worst.{permanent}
 use Rattle.combination.specs.declared.picks.Pick.{Pick}
 use Rattle.combination.specs.declared.picks.Pick.TheVariants as pick
-use Rattle.norm.specs.declared.roles.Role.TheVariants as norm-role
+use Rattle.norm.specs.declared.roles.Role.TheVariants as norm_role
 
--- the role that a long_term_counts or short_term_counts load has
+-- the role that a long-term or short-term load has
 abbrev pub plain : Pick → Assignment
 plain pick.Upper = Out
 plain pick.Lower = Out
 plain pick.Out = Out
-plain (pick.As norm-role.Leading) = Leading
-plain (pick.As norm-role.Second) = Second
-plain (pick.As norm-role.Other) = Other
+plain (pick.As norm_role.Leading) = Leading
+plain (pick.As norm_role.Second) = Second
+plain (pick.As norm_role.Other) = Other
 plain pick.Taken = Other
 
 -- a special load that is taken leads
@@ -32,9 +32,9 @@ abbrev pub lone : Pick → Assignment
 lone pick.Upper = Out
 lone pick.Lower = Out
 lone pick.Out = Out
-lone (pick.As norm-role.Leading) = Leading
-lone (pick.As norm-role.Second) = Leading
-lone (pick.As norm-role.Other) = Leading
+lone (pick.As norm_role.Leading) = Leading
+lone (pick.As norm_role.Second) = Leading
+lone (pick.As norm_role.Other) = Leading
 lone pick.Taken = Leading
 
 abbrev pub role_at : Kind → Pick → Assignment
@@ -46,9 +46,9 @@ role_at Special p = lone p
 -- the pick that gives a role
 abbrev pub given : Assignment → Pick
 given Out = pick.Out
-given Leading = pick.As norm-role.Leading
-given Second = pick.As norm-role.Second
-given Other = pick.As norm-role.Other
+given Leading = pick.As norm_role.Leading
+given Second = pick.As norm_role.Second
+given Other = pick.As norm_role.Other
 
 abbrev pub taken_as : Assignment → Pick
 taken_as Out = pick.Out

@@ -9,7 +9,7 @@ use Rattle.combination.specs.Sound.{Sound}
 use Rattle.combination.specs.Worst.{factor}
 use Rattle.questions.specs.Items.{weight_of, Reduction, InRange, Kept, Weighed}
 
--- a factor that the kind allows: only a short_term_counts load is reduced
+-- a factor that the kind allows: only a short-term load is reduced
 abbrev pub Allowed : Kind → ℕ → Type 0
 Allowed Permanent f = f ≡ 10000
 Allowed LongTerm f = f ≡ 10000

@@ -2,7 +2,7 @@
 ghost use Rattle.std.specs.Prelude.{◌≡◌, length, take};
 ghost use Rattle.questions.specs.Engine.{joined};
 ghost use Rattle.questions.specs.Items.{InRange, Kept};
-ghost use Rattle.questions.specs.Parts.{given as pick-for, placed, taken_as};
+ghost use Rattle.questions.specs.Parts.{given as given_pick, placed, taken_as};
 
 use crate::choice::{Assignment, PartChoice};
 use crate::permanent::factor;
@@ -12,7 +12,7 @@ use loads::{Kind, Record};
 use norm::Role;
 
 fn pick_for(role: Assignment) -> Pick
-    ensures { result ≡ pick-for role }
+    ensures { result ≡ given_pick role }
 {
     match role {
         Assignment::Out => Pick::Out,

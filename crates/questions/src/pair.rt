@@ -79,7 +79,7 @@ fn together<E: Effect>(
     }
 }
 
-// The best candidate among the choices that take nl long_term_counts and nt short_term_counts loads.
+// The best candidate among the choices that take nl long-term and nt short-term loads.
 pub(crate) fn pair<E: Effect>(
     question: Question,
     records: &[Record<E>],

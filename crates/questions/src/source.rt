@@ -40,7 +40,7 @@ impl<'a, M: SpecialNorm> Source for SpecialSide<'a, M> {
     }
 }
 
-// How many long_term_counts and short_term_counts loads are taken.
+// How many long-term and short-term loads are taken.
 #[derive(Clone, Copy)]
 pub(crate) struct Numbers {
     pub long: u64,

@@ -74,7 +74,7 @@ fn step<E: Effect, S: Source>(
     larger(best, found)
 }
 
-// All numbers of short_term_counts loads beside nl long_term_counts ones.
+// All numbers of short-term loads beside nl long-term ones.
 fn across<E: Effect, S: Source>(
     source: &S,
     question: Question,
