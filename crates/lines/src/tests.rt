@@ -71,6 +71,19 @@ fn two_blanks_make_an_empty_field(rt: HostRuntime) {
 }
 
 #[test]
+fn a_cursor_knows_where_it_stands(rt: HostRuntime) {
+    let mut tokens = Tokens::new(b"12 0\n5");
+    assert!(rt; !tokens.at_blank());
+    assert_eq!(rt; next_parts(&mut tokens), Some(('n', 2, 0, 1)));
+    assert!(rt; tokens.at_blank());
+    assert_eq!(rt; tokens.line(), 1);
+    assert!(rt; !tokens.is_at_end());
+    tokens.skip_rest();
+    assert_eq!(rt; tokens.line(), 2);
+    assert!(rt; tokens.is_at_end());
+}
+
+#[test]
 fn readers_go_field_by_field(rt: HostRuntime) {
     let mut tokens = Tokens::new(b"12 0\n5");
     assert!(rt; !tokens.at_blank());

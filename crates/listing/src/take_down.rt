@@ -73,21 +73,13 @@ impl fmt::Display for Section {
 #[cfg(test)]
 mod tests {
     use super::*;
-    use std::process::Abort;
     use std::test::Fail;
 
-    fn check_fault(
-        rt: &impl Abort,
-        text: &[u8],
-        refusal: Refusal,
-        line: usize,
-    ) -> Result<(), Fail> {
+    fn check_fault(text: &[u8], refusal: Refusal, line: usize) -> Result<(), Fail> {
         match read_column(text) {
             Ok(_) => Err(Fail::new("a fault is missing")),
-            Err(fault) => {
-                assert_eq!(rt; fault, Fault { refusal, line });
-                Ok(())
-            },
+            Err(fault) if fault == (Fault { refusal, line }) => Ok(()),
+            Err(_) => Err(Fail::new("another fault")),
         }
     }
 
@@ -108,15 +100,14 @@ mod tests {
     }
 
     #[test]
-    fn the_first_faulty_line_counts(rt: HostRuntime) -> Result<(), Fail> {
+    fn the_first_faulty_line_counts() -> Result<(), Fail> {
         check_fault(
-            &rt,
             b"40 2 1000000 50000\n41 1 1 1\nx\n",
             Refusal::ColumnValue,
             2,
         )?;
-        check_fault(&rt, b"1 1 1 50001\n", Refusal::ColumnValue, 1)?;
-        check_fault(&rt, b"1 1 1 0\n1 1 1 0 \n", Refusal::BodyLine, 2)?;
-        check_fault(&rt, b"1 1 1 0", Refusal::BodyLine, 1)
+        check_fault(b"1 1 1 50001\n", Refusal::ColumnValue, 1)?;
+        check_fault(b"1 1 1 0\n1 1 1 0 \n", Refusal::BodyLine, 2)?;
+        check_fault(b"1 1 1 0", Refusal::BodyLine, 1)
     }
 }
