@@ -2,7 +2,7 @@
 #![tactic(auto)]
 
 pub use names::NormName;
-pub use percentages::{Norm, SpecialNorm};
+pub use percentages::{InSpecial, Norm, SpecialNorm};
 pub use roles::Role;
 pub use snip_85::Snip85;
 pub use sp_20::Sp20;

@@ -25,6 +25,20 @@ pub trait SpecialNorm: Norm {
     ghost special_ranged: { (n : Self) → Ranged (special n) };
 }
 
+// The second answer of a norm, as a norm of its own: what is said of any norm's basic combinations holds of the special ones too.
+#[derive(Clone, Copy)]
+pub struct InSpecial<'a, M>(pub &'a M);
+
+impl<'a, M: SpecialNorm> Norm for InSpecial<'a, M> {
+    ghost percentages = { λ n. M.SpecialNorm.special n.0.now };
+
+    ghost ranged = { λ n. M.SpecialNorm.special_ranged n.0.now };
+
+    fn percent(&self, term: Term, role: u64, long: u64, short: u64) -> u64 {
+        self.0.special_percent(term, role, long, short)
+    }
+}
+
 // Whether a norm may be asked this.
 pub(crate) fn in_range(term: Term, role: u64, long: u64, short: u64) -> bool
     ensures { result ≡ inside term role long short }
