@@ -1,5 +1,5 @@
 -- What the inner functions compute is what the definitions say.
-use Rattle.std.proofs.Common.{◌≡◌, ℕ, ◌-◌, ◌*◌, ◌^◌, ◌≤◌, min, Bool, true, false, cond, sym, refl, ap, ◌∙◌, subst, ap₂, mul_assoc, mul-le-mul, arith, lit≤}
+use Rattle.std.proofs.Common.{◌≡◌, ℕ, ◌-◌, ◌*◌, ◌^◌, ◌≤◌, min, Bool, true, false, cond, Some, None, Option, sym, ap, ◌∙◌, subst, ap₂, mul_assoc, mul-le-mul, arith, lit≤}
 use Rattle.effect.specs.Laws.{Operations}
 use Rattle.effect.specs.Sums.{Counted}
 use Rattle.loads.specs.declared.records.Record.{Record}
@@ -10,12 +10,12 @@ use Rattle.combination.proofs.Contributions.{chosen_most, multiple_within}
 use Rattle.combination.proofs.Ranges.{InRange}
 
 -- a product that stays within 64 bits
-pub weighted_is : {E : Type 0} (o : Operations E) (e : E) (p f w : ℕ) (taken : Bool) (r : E) → p ≡ min (f * w) (2 ^ 64 - 1) → Counted o e p taken r → f ≤ 200 → w ≤ 1000000 → o.reach e ≤ 1000000000 → r ≡ cond taken (o.times (f * w) e) o.nil
-weighted_is o e p f w true r is c hf hw he =
+pub weighted_is : {E : Type 0} (o : Operations E) (e : E) (p f w : ℕ) (taken : Bool) (given : Option ℕ) (r : E) → p ≡ min (f * w) (2 ^ 64 - 1) → given ≡ cond taken (Some p) None → Counted o e given r → f ≤ 200 → w ≤ 1000000 → o.reach e ≤ 1000000000 → r ≡ cond taken (o.times (f * w) e) o.nil
+weighted_is o e p f w true given r is so c hf hw he =
     let most : f * w ≤ 200 * 1000000 = mul-le-mul hf hw in
     let whole : p ≡ f * w = omega arith in
-    c.if_taken refl (multiple_within p (o.reach e) (omega arith) he) ∙ ap (λ n. o.times n e) whole
-weighted_is o e p f w false r is c hf hw he = (c.if_not refl).0
+    c.if_taken p so (multiple_within p (o.reach e) (omega arith) he) ∙ ap (λ n. o.times n e) whole
+weighted_is o e p f w false given r is so c hf hw he = (c.if_not so).0
 
 -- what `weighted` promises
 abbrev Weighted : {E : Type 0} → Operations E → E → (factor weight : ℕ) → Bool → E → Type 0

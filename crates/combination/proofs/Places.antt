@@ -1,18 +1,27 @@
 -- The lines of a choice, place by place.
-use Rattle.std.proofs.Common.{◌≡◌, ℕ, zero, suc, ◌+◌, ◌-◌, ◌<◌, ◌≤◌, min, Bool, true, false, cond, ◌⊎◌, ◌↔◌, List, [], ◌∷◌, map, length, get_or, take, drop, Decides, sym, refl, ap, ◌∙◌, subst, ap₂, inl, inr, ⊎_elim, add-one, arith, length-drop, take_all, drop-cons}
+use Rattle.std.proofs.Common.{◌≡◌, ℕ, zero, suc, ◌+◌, ◌<◌, ◌≤◌, min, Bool, true, false, cond, ◌⊎◌, List, [], ◌∷◌, ◌++◌, map, length, get_or, drop, Decides, MatchBool, sym, refl, ap, ◌∙◌, ap₂, inl, inr, ⊎_elim, add-one, arith, drop-cons}
 use Rattle.std.proofs.lemmas.List.{drop_all}
 use Rattle.std.proofs.lemmas.Bool.{cases_lt, false≢true}
 use Rattle.loads.specs.declared.records.Record.{Record}
+use Rattle.std.specs.List.{HoldsAt, AllWithin, AllByRecursion, filter}
+use Rattle.std.proofs.lemmas.List.Sums.{length-filter}
+use Rattle.std.proofs.lemmas.List.Recursion.{is_count_by}
+use Rattle.std.proofs.ByRecursion.{All-get_or, all_from_every}
 use Rattle.combination.specs.Choices.{Line, lines}
+use Rattle.combination.specs.Lists.{EachTwo, count}
 use Rattle.combination.specs.declared.picks.Pick.{Pick}
-use Rattle.combination.specs.declared.picks.Pick.TheVariants.{Upper}
 
 pub one_most : (b : Bool) → cond b 1 0 ≤ 1
 one_most true = omega arith
 one_most false = omega arith
 
-pub rest : {X : Type 0} (xs : List X) (n : ℕ) → take (length xs - n) (drop n xs) ≡ drop n xs
-rest xs n = take_all _ _ (omega (arith, length-drop n xs))
+one_more : (b : Bool) (n : ℕ) → cond b 1 0 + n ≡ cond b (1 + n) n
+one_more true n = refl
+one_more false n = omega arith
+
+-- those that pass a test, counted
+pub count_is : {X : Type 0} (p : X → Bool) (xs : List X) → length (filter p xs) ≡ count p xs
+count_is p xs = length-filter p xs ∙ sym (is_count_by (count p) p refl (λ x xs. one_more (p x) (count p xs)) xs)
 
 module _ {E : Type 0} where
   lines_empty : (rs : List (Record E)) → lines rs [] ≡ []
@@ -50,21 +59,18 @@ module _ {E : Type 0} where
   map_lines_at f (x ∷ rs) (q ∷ ps) zero r p d h = refl
   map_lines_at f (x ∷ rs) (q ∷ ps) (suc i) r p d h = map_lines_at f rs ps i r p d (omega arith)
 
--- a property of lines that holds of a list where it holds of its first line, in view of the rest, and of the rest
-module _ {E : Type 0} (Q : List (Line E) → Type 0) (H : Line E → List (Line E) → Type 0) (parts : (l : Line E) (ls : List (Line E)) → Q (l ∷ ls) ↔ (H l ls × Q ls)) (records : List (Record E)) (picks : List Pick) where
-  -- it holds of all lines exactly where it holds of those from place i on
-  abbrev From : ℕ → Type 0
-  From i = Q (lines records picks) ↔ Q (lines (drop i records) (drop i picks))
+-- `all` with a test of P
+pub decided_by_all : {X : Type 0} (P : X → Type 0) (xs : List X) (r : Bool) → MatchBool r (AllWithin P xs 0 (length xs)) ((k : ℕ) × (k < length xs) × HoldsAt (λ x. P x → ⊥) xs k) → Decides r (AllByRecursion P xs)
+decided_by_all P xs true h = (λ _. all_from_every P xs h, λ _. refl)
+decided_by_all P [] false h = absurd (omega (arith, h.1))
+decided_by_all P (x ∷ xs) false h = (λ e. absurd (false≢true e), λ all. absurd (h.2 x (All-get_or P (x ∷ xs) h.0 x h.1 all)))
 
-  module _ (i : ℕ) (x : Record E) (within : i < min (length records) (length picks)) (is : x ≡ get_or records i x) where
-    here : lines (drop i records) (drop i picks) ≡ (x, get_or picks i Upper) ∷ lines (drop (i + 1) records) (drop (i + 1) picks)
-    here = lines_at records picks i x Upper within ∙ ap (λ y. (y, get_or picks i Upper) ∷ lines (drop (i + 1) records) (drop (i + 1) picks)) (sym is)
+pub length_more : {X : Type 0} (xs : List X) (x : X) → length (xs ++ x ∷ []) ≡ length xs + 1
+length_more [] x = refl
+length_more (y ∷ xs) x = omega (arith, length_more xs x)
 
-    pub walk_on : From i → H (x, get_or picks i Upper) (lines (drop (i + 1) records) (drop (i + 1) picks)) → From (i + 1)
-    walk_on f h = (λ q. ((parts _ _).0 (subst Q here (f.0 q))).1, λ q. f.1 (subst Q (sym here) ((parts _ _).1 (h, q))))
-
-    pub walk_fails : From i → (H (x, get_or picks i Upper) (lines (drop (i + 1) records) (drop (i + 1) picks)) → ⊥) → Decides false (Q (lines records picks))
-    walk_fails f n = (λ e. absurd (false≢true e), λ q. absurd (n ((parts _ _).0 (subst Q here (f.0 q))).0))
-
-  pub walk_ends : (i : ℕ) → min (length records) (length picks) ≤ i → Q [] → From i → Decides true (Q (lines records picks))
-  walk_ends i past q f = (λ _. f.1 (subst Q (sym (lines_none records picks i past)) q), λ _. refl)
+-- where there are no picks there are no lines
+pub each_two_of_none : {E : Type 0} (R : Line E → Line E → Type 0) (records : List (Record E)) (picks : List Pick) → length picks < 1 → EachTwo R (lines records picks)
+each_two_of_none R [] picks h = tt
+each_two_of_none R (r ∷ rs) [] h = tt
+each_two_of_none R (r ∷ rs) (p ∷ ps) h = absurd (omega arith)

@@ -28,14 +28,14 @@ whole_table t long short Short i nl nt = short i
 
 -- one turn of the loop
 module _ {E : Type 0} (o : Operations E) (laws : Laws o) (norm : Percentages) (part : AtMostWhole norm) (records : List (Record E)) (picks : List Pick) where
-  pub sum_step : (i : ℕ) (x : Record E) (value sum next : E) → Kept o records → i < min (length records) (length picks) → x ≡ get_or records i x
-      → value ≡ contribution o norm 0 0 x.kind (get_or picks i Upper) x → sum ≡ total o (take i (contributions o norm 0 0 (lines records picks)))
+  pub sum_step : (i : ℕ) (x : Record E) (p : Pick) (value sum next : E) → Kept o records → i < min (length records) (length picks) → x ≡ get_or records i x → p ≡ get_or picks i p
+      → value ≡ contribution o norm 0 0 x.kind p x → sum ≡ total o (take i (contributions o norm 0 0 (lines records picks)))
       → (o.reach sum + o.reach value ≤ limit → next ≡ o.plus sum value) → next ≡ total o (take (i + 1) (contributions o norm 0 0 (lines records picks)))
-  sum_step i x value sum next kept h is v s promised =
+  sum_step i x p value sum next kept h is that v s promised =
       let f : Line E → E = λ l. contribution o norm 0 0 l.0.kind l.1 l.0 in
       let all = contributions o norm 0 0 (lines records picks) in
       let short : i < length all = omega (arith, length-map (lines records picks) f, length_lines records picks) in
-      let read : value ≡ get_or all i value = v ∙ ap (λ y. f (y, get_or picks i Upper)) is ∙ sym (map_lines_at f records picks i x Upper value h) in
+      let read : value ≡ get_or all i value = v ∙ ap₂ (λ y q. f (y, q)) is that ∙ sym (map_lines_at f records picks i x p value h) in
       total_step laws all i value sum next short read (within o laws norm part 0 0 records picks kept) s promised
 
   sum_all : (i : ℕ) → min (length records) (length picks) ≤ i → take i (contributions o norm 0 0 (lines records picks)) ≡ contributions o norm 0 0 (lines records picks)

@@ -1,12 +1,14 @@
 -- Choices, and which of them are admissible.
-use Rattle.std.specs.Prelude.{◌≡◌, ℕ, ◌<◌, ◌≤◌, Bool, true, false, ◌&&◌, T, List, [], ◌∷◌, length, ◌==◌}
-use Rattle.std.specs.List.{AllByRecursion}
+use Rattle.std.specs.Prelude.{◌≡◌, ℕ, ◌<◌, ◌≤◌, Bool, true, false, ◌&&◌, T, List, [], ◌∷◌, length, Some, None, Option, ◌==◌}
+use Rattle.std.specs.List.{AllByRecursion, zip}
 use Rattle.loads.specs.declared.kinds.Kind.{Kind}
 use Rattle.loads.specs.declared.kinds.Kind.TheVariants.{Permanent, LongTerm, ShortTerm, Special}
 use Rattle.loads.specs.declared.records.Record.{Record}
 use Rattle.norm.specs.Roles.{role_number}
+use Rattle.norm.specs.declared.roles.Role.{Role}
 use Rattle.norm.specs.declared.roles.Role.TheVariants.{Leading, Second, Other}
 use Rattle.combination.specs.Lists.{Among, EachTwo, count}
+use Rattle.combination.specs.declared.choice.Choice.{Choice}
 use Rattle.combination.specs.declared.picks.Pick.{Pick}
 use Rattle.combination.specs.declared.picks.Pick.TheVariants.{Upper, Lower, Out, As, Taken}
 use Rattle.combination.specs.declared.questions.Question.{Question}
@@ -19,13 +21,21 @@ picks_for LongTerm = Out ∷ As Leading ∷ As Second ∷ As Other ∷ []
 picks_for ShortTerm = Out ∷ As Leading ∷ As Second ∷ As Other ∷ []
 picks_for Special = Out ∷ Taken ∷ []
 
--- the number of the role that a pick gives, 0 for none
+-- the role that a pick gives
+abbrev pub role_of : Pick → Option Role
+role_of Upper = None
+role_of Lower = None
+role_of Out = None
+role_of (As r) = Some r
+role_of Taken = None
+
+abbrev pub number_or_0 : Option Role → ℕ
+number_or_0 None = 0
+number_or_0 (Some r) = role_number r
+
+-- its number, 0 for none
 abbrev pub role : Pick → ℕ
-role Upper = 0
-role Lower = 0
-role Out = 0
-role (As r) = role_number r
-role Taken = 0
+role p = number_or_0 (role_of p)
 
 abbrev pub is_taken : Pick → Bool
 is_taken Upper = false
@@ -59,9 +69,10 @@ Line E = Record E × Pick
 module _ {E : Type 0} where
   -- the records with their picks, place by place
   abbrev pub lines : List (Record E) → List Pick → List (Line E)
-  lines [] ps = []
-  lines (r ∷ rs) [] = []
-  lines (r ∷ rs) (p ∷ ps) = (r, p) ∷ lines rs ps
+  lines rs ps = zip rs ps
+
+  abbrev pub lines_of : Choice E → List (Line E)
+  lines_of c = lines c.records.now c.picks.now
 
   -- how many records of a kind are taken
   abbrev pub taken : Kind → List (Line E) → ℕ

@@ -2,55 +2,42 @@
 ghost use Rattle.std.specs.Prelude.{◌≡◌, ◌*◌, ◌≤◌, if◌then◌else◌};
 ghost use Rattle.loads.specs.Rules.{Ruled};
 ghost use Rattle.reduction.specs.Factor.{InRange, factor_of};
-ghost use Rattle.combination.specs.Choices.{is_lower};
 ghost use Rattle.combination.specs.Computing.{Bounded, by_role, by_table};
 ghost use Rattle.combination.specs.Worst.{permanent as always, temporary as in_role, special as if_taken, contribution as contributed};
 
 use crate::percents::{Percents, Table};
 use crate::picks::Pick;
 use effect::{Effect, multiple_if};
-use loads::{Kind, Record};
+use loads::{Kind, Load, Record};
 use reduction::factor;
 
 // The factor of the reduction, in ten-thousandths; 0 where there is none.
-fn reduction_of(class: u64, area: u64, storeys: u64) -> u64
-    ensures value { InRange class area storeys → result ≡ factor_of class area storeys }
+fn reduction_of<E>(load: &Load<E>) -> u64
+    ensures value { InRange load.now.class load.now.area load.now.storeys → result ≡ factor_of load.now.class load.now.area load.now.storeys }
     ensures most { result ≤ 10000 }
 {
-    match factor(class, area, storeys) {
-        Ok(f) => f,
-        Err(_) => 0,
-    }
+    factor(load.class, load.area, load.storeys).unwrap_or(0)
 }
 
 // An effect times a factor and a weight where it is taken, zero where it is not.
 fn weighted<E: Effect>(effect: E, factor: u64, weight: u64, taken: bool) -> E
     ensures { factor ≤ 200 → weight ≤ 1000000 → E.Effect.means.reach effect ≤ 1000000000 → result ≡ (if taken then E.Effect.means.times (factor * weight) effect else E.Effect.means.nil) }
 {
-    multiple_if(effect, factor.saturating_mul(weight), taken)
-}
-
-// The factor of a permanent load.
-fn chosen(pick: Pick, upper: u64, lower: u64) -> u64
-    ensures { result ≡ (if is_lower pick then lower else upper) }
-{
-    if pick.is_lower() { lower } else { upper }
+    multiple_if(effect, taken.then_some(factor.saturating_mul(weight)))
 }
 
 // A permanent load always counts, by the factor that is chosen.
 fn permanent<E: Effect>(pick: Pick, of: &Record<E>) -> E
     ensures { Ruled E.Effect.means of.now → result ≡ always E.Effect.means pick of.now }
 {
-    let factor = chosen(pick, of.load.upper, of.load.lower);
-    weighted(of.load.effect, factor, 1_000_000, true)
+    weighted(of.load.effect, pick.factor(&of.load), 1_000_000, true)
 }
 
 // A long-term or short-term load counts where it is taken, reduced and by the percentage of its role.
 fn temporary<E: Effect>(percents: Percents, pick: Pick, of: &Record<E>) -> E
     ensures { Ruled E.Effect.means of.now → Bounded percents → result ≡ in_role E.Effect.means (by_role percents) pick of.now }
 {
-    let reduction = reduction_of(of.load.class, of.load.area, of.load.storeys);
-    let weight = reduction.saturating_mul(percents.at(pick.role()));
+    let weight = reduction_of(&of.load).saturating_mul(percents.at(pick.role()));
     weighted(of.load.effect, of.load.upper, weight, pick.is_taken())
 }
 

@@ -3,8 +3,8 @@
 
 mod admissible;
 mod answers;
+mod choice;
 mod contribution;
-mod counts;
 mod examples;
 mod percents;
 mod picks;
@@ -13,10 +13,9 @@ mod questions;
 mod tests;
 mod totals;
 
-pub use admissible::is_admissible;
 pub use answers::Answer;
+pub use choice::Choice;
 pub use examples::{TwoLists, entered_two_ways};
 pub use percents::{Percents, Table};
 pub use picks::Pick;
 pub use questions::Question;
-pub use totals::{basic_table, comes_to, special_comes_to, special_table};

@@ -1,11 +1,12 @@
 // The percentages of a norm for the numbers that a choice takes.
 ghost use Rattle.std.specs.Prelude.{◌≡◌};
+ghost use Rattle.combination.specs.Choices.{number_or_0};
 ghost use Rattle.combination.specs.Computing.{Asked, by_role};
 
-use norm::{Norm, SpecialNorm, Term};
+use norm::{Norm, Role, Term};
 
 // The percentages of the three roles of a term.
-#[derive(Clone, Copy)]
+#[derive(Clone, Copy, PartialEq, Eq, Debug)]
 pub struct Percents {
     pub leading: u64,
     pub second: u64,
@@ -13,47 +14,33 @@ pub struct Percents {
 }
 
 // Those of both terms.
-#[derive(Clone, Copy)]
+#[derive(Clone, Copy, PartialEq, Eq, Debug)]
 pub struct Table {
     pub long: Percents,
     pub short: Percents,
 }
 
 impl Percents {
-    // The percentage for the number of a role.
-    pub(crate) fn at(self, role: u64) -> u64
-        ensures { result ≡ by_role self role }
+    // Those of a norm for one term and the numbers taken.
+    pub(crate) fn of<M: Norm>(norm: &M, term: Term, long: u64, short: u64) -> Percents
+        ensures { Asked (M.Norm.percentages norm.now) term long short result }
     {
-        match role {
-            1 => self.leading,
-            2 => self.second,
-            3 => self.other,
-            _ => 0,
+        Percents {
+            leading: norm.percent(term, 1, long, short),
+            second: norm.percent(term, 2, long, short),
+            other: norm.percent(term, 3, long, short),
         }
     }
-}
 
-pub(crate) fn basic_percents<M: Norm>(norm: &M, term: Term, long: u64, short: u64) -> Percents
-    ensures { Asked (M.Norm.percentages norm.now) term long short result }
-{
-    Percents {
-        leading: norm.percent(term, 1, long, short),
-        second: norm.percent(term, 2, long, short),
-        other: norm.percent(term, 3, long, short),
-    }
-}
-
-pub(crate) fn special_percents<M: SpecialNorm>(
-    norm: &M,
-    term: Term,
-    long: u64,
-    short: u64,
-) -> Percents
-    ensures { Asked (M.SpecialNorm.special norm.now) term long short result }
-{
-    Percents {
-        leading: norm.special_percent(term, 1, long, short),
-        second: norm.special_percent(term, 2, long, short),
-        other: norm.special_percent(term, 3, long, short),
+    // The percentage for a role, 0 for none.
+    pub(crate) fn at(self, role: Option<Role>) -> u64
+        ensures { result ≡ by_role self (number_or_0 role) }
+    {
+        match role {
+            Some(Role::Leading) => self.leading,
+            Some(Role::Second) => self.second,
+            Some(Role::Other) => self.other,
+            None => 0,
+        }
     }
 }

@@ -1,7 +1,8 @@
 // What a choice does with one record.
-ghost use Rattle.std.specs.Prelude.{◌≡◌};
-ghost use Rattle.combination.specs.Choices.{is_taken, is_lower, role as role_of_pick};
+ghost use Rattle.std.specs.Prelude.{◌≡◌, if◌then◌else◌};
+ghost use Rattle.combination.specs.Choices.{is_taken, is_lower, role_of};
 
+use loads::Load;
 use norm::Role;
 
 #[derive(Clone, Copy, PartialEq, Eq, Debug)]
@@ -23,29 +24,34 @@ impl Pick {
     pub fn is_taken(self) -> bool
         ensures { result ≡ is_taken self }
     {
-        match self {
-            Pick::As(_) | Pick::Taken => true,
-            Pick::Upper | Pick::Lower | Pick::Out => false,
-        }
+        matches!(self, Pick::As(_) | Pick::Taken)
     }
 
     // Whether a permanent load has its lower factor.
     pub fn is_lower(self) -> bool
         ensures { result ≡ is_lower self }
     {
+        self == Pick::Lower
+    }
+
+    // The role that it gives.
+    pub fn role(self) -> Option<Role>
+        ensures { result ≡ role_of self }
+    {
         match self {
-            Pick::Lower => true,
-            _ => false,
+            Pick::As(role) => Some(role),
+            _ => None,
         }
     }
 
-    // The number of the role, 0 for none.
-    pub fn role(self) -> u64
-        ensures { result ≡ role_of_pick self }
+    // The factor of a permanent load.
+    pub fn factor<E>(self, load: &Load<E>) -> u64
+        ensures { result ≡ (if is_lower self then load.now.lower else load.now.upper) }
     {
-        match self {
-            Pick::As(role) => role.number(),
-            _ => 0,
+        if self.is_lower() {
+            load.lower
+        } else {
+            load.upper
         }
     }
 }

@@ -1,11 +1,10 @@
-use crate::admissible::is_admissible;
+use crate::choice::Choice;
 use crate::examples::entered_two_ways;
 use crate::picks::Pick;
 use crate::questions::Question;
-use crate::totals::{comes_to, special_comes_to};
 use effect::N;
 use loads::{Kind, Load, Record};
-use norm::{Role, Snip85, Sp20};
+use norm::{InSpecial, Role, Snip85, Sp20};
 
 const LEADING: Pick = Pick::As(Role::Leading);
 
@@ -42,6 +41,10 @@ fn section() -> [Record<N>; 4] {
     ]
 }
 
+fn of<'a>(records: &'a [Record<N>], picks: &'a [Pick]) -> Choice<'a, N> {
+    Choice { records, picks }
+}
+
 // in units of 0.00000001 N
 fn newtons(force: i64) -> N {
     N {
@@ -55,11 +58,11 @@ fn role_1(rt: HostRuntime) {
     let records = section();
     let smaller = [Pick::Upper, LEADING, SECOND, LEADING];
     let larger = [Pick::Upper, LEADING, LEADING, SECOND];
-    assert!(rt; is_admissible(Question::Basic, &records, &smaller));
-    assert!(rt; is_admissible(Question::Basic, &records, &larger));
-    assert_eq!(rt; comes_to(&Sp20, &records, &smaller), newtons(1_140_800));
-    assert_eq!(rt; comes_to(&Sp20, &records, &larger), newtons(1_138_000));
-    assert_eq!(rt; comes_to(&Snip85, &records, &larger), newtons(1_108_600));
+    assert!(rt; of(&records, &smaller).is_admissible(Question::Basic));
+    assert!(rt; of(&records, &larger).is_admissible(Question::Basic));
+    assert_eq!(rt; of(&records, &smaller).comes_to(&Sp20), newtons(1_140_800));
+    assert_eq!(rt; of(&records, &larger).comes_to(&Sp20), newtons(1_138_000));
+    assert_eq!(rt; of(&records, &larger).comes_to(&Snip85), newtons(1_108_600));
 }
 
 #[test]
@@ -70,41 +73,29 @@ fn special(rt: HostRuntime) {
         record(Kind::ShortTerm, 100, 100, 0),
     ];
     let picks = [Pick::Lower, Pick::Taken, LEADING];
-    assert!(rt; is_admissible(Question::WithSpecial, &records, &picks));
-    assert!(rt; !is_admissible(Question::Basic, &records, &picks));
-    assert_eq!(rt; special_comes_to(&Sp20, &records, &picks), newtons(110));
-    assert_eq!(rt; special_comes_to(&Snip85, &records, &picks), newtons(110));
+    assert!(rt; of(&records, &picks).is_admissible(Question::WithSpecial));
+    assert!(rt; !of(&records, &picks).is_admissible(Question::Basic));
+    assert_eq!(rt;
+        of(&records, &picks).comes_to(&InSpecial(&Sp20)),
+        newtons(110)
+    );
+    assert_eq!(rt;
+        of(&records, &picks).comes_to(&InSpecial(&Snip85)),
+        newtons(110)
+    );
 }
 
 #[test]
 fn roles(rt: HostRuntime) {
     let records = section();
     let basic = Question::Basic;
-    assert!(rt;
-        is_admissible(
-            basic,
-            &records,
-            &[Pick::Lower, Pick::Out, Pick::Out, Pick::Out],
-        )
-    );
-    assert!(rt;
-        !is_admissible(
-            basic,
-            &records,
-            &[Pick::Upper, SECOND, Pick::Out, Pick::Out],
-        )
-    );
-    assert!(rt; !is_admissible(basic, &records, &[Pick::Upper, LEADING, LEADING, LEADING]));
-    assert!(rt; !is_admissible(basic, &records, &[Pick::Upper, LEADING, LEADING, OTHER]));
-    assert!(rt; !is_admissible(basic, &records, &[Pick::Out, LEADING, LEADING, SECOND]));
-    assert!(rt;
-        !is_admissible(
-            basic,
-            &records,
-            &[Pick::Upper, Pick::Taken, LEADING, SECOND],
-        )
-    );
-    assert!(rt; !is_admissible(basic, &records, &[Pick::Upper, LEADING, LEADING]));
+    assert!(rt; of(&records, &[Pick::Lower, Pick::Out, Pick::Out, Pick::Out]).is_admissible(basic));
+    assert!(rt; !of(&records, &[Pick::Upper, SECOND, Pick::Out, Pick::Out]).is_admissible(basic));
+    assert!(rt; !of(&records, &[Pick::Upper, LEADING, LEADING, LEADING]).is_admissible(basic));
+    assert!(rt; !of(&records, &[Pick::Upper, LEADING, LEADING, OTHER]).is_admissible(basic));
+    assert!(rt; !of(&records, &[Pick::Out, LEADING, LEADING, SECOND]).is_admissible(basic));
+    assert!(rt; !of(&records, &[Pick::Upper, Pick::Taken, LEADING, SECOND]).is_admissible(basic));
+    assert!(rt; !of(&records, &[Pick::Upper, LEADING, LEADING]).is_admissible(basic));
 }
 
 #[test]
@@ -113,9 +104,9 @@ fn two_ways(rt: HostRuntime) {
     let both = [Pick::Upper, LEADING, SECOND];
     let one = [Pick::Upper, LEADING, Pick::Out];
     let same = [Pick::Out, Pick::Upper, LEADING];
-    assert!(rt; !is_admissible(Question::Basic, &lists.first, &both));
-    assert!(rt; is_admissible(Question::Basic, &lists.first, &one));
-    assert!(rt; is_admissible(Question::Basic, &lists.second, &same));
-    assert_eq!(rt; comes_to(&Sp20, &lists.first, &one), newtons(802));
-    assert_eq!(rt; comes_to(&Sp20, &lists.second, &same), newtons(802));
+    assert!(rt; !of(&lists.first, &both).is_admissible(Question::Basic));
+    assert!(rt; of(&lists.first, &one).is_admissible(Question::Basic));
+    assert!(rt; of(&lists.second, &same).is_admissible(Question::Basic));
+    assert_eq!(rt; of(&lists.first, &one).comes_to(&Sp20), newtons(802));
+    assert_eq!(rt; of(&lists.second, &same).comes_to(&Sp20), newtons(802));
 }

@@ -1,68 +1,47 @@
 // What a choice comes to.
 ghost use Rattle.norm.specs.Percentages.{Percentages};
-ghost use Rattle.combination.specs.Choices.{lines};
+ghost use Rattle.combination.specs.Choices.{lines_of};
 ghost use Rattle.combination.specs.Combined.{Combined};
 ghost use Rattle.combination.specs.Computing.{AskedFor};
 
+use crate::choice::Choice;
 use crate::contribution::contribution;
-use crate::counts::count;
-use crate::percents::{Table, basic_percents, special_percents};
-use crate::picks::Pick;
+use crate::percents::{Percents, Table};
 use effect::Effect;
-use loads::{Kind, Record};
-use norm::{Norm, SpecialNorm, Term};
+use loads::Kind;
+use norm::{Norm, Term};
 
 // The sum of what the records contribute, by a table that was asked of any norm.
-fn sum_contributions<E: Effect>(table: &Table, records: &[Record<E>], picks: &[Pick]) -> E
-    ensures { (norm : Percentages) → AskedFor norm (lines records.now picks.now) table.now → Combined E.Effect.means norm records.now picks.now result }
+fn sum_contributions<E: Effect>(table: &Table, choice: &Choice<E>) -> E
+    ensures { (norm : Percentages) → AskedFor norm (lines_of choice.now) table.now → Combined E.Effect.means norm choice.now.records.now choice.now.picks.now result }
 {
     let mut sum = E::zero();
-    for i in 0..records.len().min(picks.len()) {
-        sum = sum.sum(contribution(table, picks[i], &records[i]));
+    for (of, pick) in choice.records.iter().zip(choice.picks) {
+        sum = sum.sum(contribution(table, *pick, of));
     }
     sum
 }
 
-// The percentages of a basic combination, for the numbers that a choice takes.
-pub fn basic_table<E, M: Norm>(norm: &M, records: &[Record<E>], picks: &[Pick]) -> Table
-    ensures { AskedFor (M.Norm.percentages norm.now) (lines records.now picks.now) result }
-{
-    let long = count(Kind::LongTerm, None, records, picks);
-    let short = count(Kind::ShortTerm, None, records, picks);
-    Table {
-        long: basic_percents(norm, Term::Long, long, short),
-        short: basic_percents(norm, Term::Short, long, short),
+impl<'a, E> Choice<'a, E> {
+    // The percentages of a norm for the numbers that it takes. For a special combination the norm is asked as `InSpecial`.
+    pub fn table<M: Norm>(&self, norm: &M) -> Table
+        ensures { AskedFor (M.Norm.percentages norm.now) (lines_of self.now) result }
+    {
+        let long = self.count(Kind::LongTerm, None);
+        let short = self.count(Kind::ShortTerm, None);
+        Table {
+            long: Percents::of(norm, Term::Long, long, short),
+            short: Percents::of(norm, Term::Short, long, short),
+        }
     }
 }
 
-// Those of a special combination.
-pub fn special_table<E, M: SpecialNorm>(norm: &M, records: &[Record<E>], picks: &[Pick]) -> Table
-    ensures { AskedFor (M.SpecialNorm.special norm.now) (lines records.now picks.now) result }
-{
-    let long = count(Kind::LongTerm, None, records, picks);
-    let short = count(Kind::ShortTerm, None, records, picks);
-    Table {
-        long: special_percents(norm, Term::Long, long, short),
-        short: special_percents(norm, Term::Short, long, short),
+impl<'a, E: Effect> Choice<'a, E> {
+    // What it comes to under a norm, in units of 0.00000001; left free where the records break the rules.
+    // For a special combination the norm is asked as `InSpecial`.
+    pub fn comes_to<M: Norm>(&self, norm: &M) -> E
+        ensures { Combined E.Effect.means (M.Norm.percentages norm.now) self.now.records.now self.now.picks.now result }
+    {
+        sum_contributions(&self.table(norm), self)
     }
-}
-
-// What a choice of a basic combination comes to, in units of 0.00000001; left free where the records break the rules.
-pub fn comes_to<E: Effect, M: Norm>(norm: &M, records: &[Record<E>], picks: &[Pick]) -> E
-    ensures { Combined E.Effect.means (M.Norm.percentages norm.now) records.now picks.now result }
-{
-    let table = basic_table(norm, records, picks);
-    sum_contributions(&table, records, picks)
-}
-
-// What a choice of a special combination comes to, in the same way.
-pub fn special_comes_to<E: Effect, M: SpecialNorm>(
-    norm: &M,
-    records: &[Record<E>],
-    picks: &[Pick],
-) -> E
-    ensures { Combined E.Effect.means (M.SpecialNorm.special norm.now) records.now picks.now result }
-{
-    let table = special_table(norm, records, picks);
-    sum_contributions(&table, records, picks)
 }

@@ -1,6 +1,5 @@
 -- What the laws of an effect type give of the answers of generic code.
-use Rattle.std.proofs.Common.{◌≡◌, ℕ, Bool, false, Ordering, sym, refl, ◌∙◌, inl, inr}
-use Rattle.std.proofs.lemmas.Bool.{false≢true}
+use Rattle.std.proofs.Common.{◌≡◌, ℕ, Some, None, Option, Ordering, sym, refl, ◌∙◌, inl, inr}
 use Rattle.effect.specs.Laws.{Operations, Laws, AtMost}
 use Rattle.effect.specs.Orders.{SumsKeepOrder, Larger, LargerOf, Ordered}
 use Rattle.effect.specs.Sums.{Counted}
@@ -45,8 +44,8 @@ module _ {V : Type 0} {e : Operations V} (laws : Laws e) where
   }
 
   -- zero is 0 times any value
-  pub not_counted : (a : V) (p : ℕ) (taken : Bool) (r : V) → taken ≡ false → r ≡ e.nil → Counted e a p taken r
-  not_counted a p taken r t s = record {
-    if_taken = λ u. absurd (false≢true (sym t ∙ u));
+  pub not_counted : (a : V) (taken : Option ℕ) (r : V) → taken ≡ None → r ≡ e.nil → Counted e a taken r
+  not_counted a taken r t s = record {
+    if_taken = λ p u. absurd cc;
     if_not = λ _. (s, s ∙ sym (times_zero laws a));
   }

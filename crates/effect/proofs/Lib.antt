@@ -2,5 +2,4 @@ pub mod AtMost
 pub mod Comparisons
 pub mod Derived
 pub mod Rearranging
-pub mod Spelling
 pub mod Totals

@@ -1,5 +1,5 @@
 -- The sum of a list of effects, and an effect that is taken or not.
-use Rattle.std.specs.Prelude.{◌≡◌, ℕ, ◌+◌, ◌*◌, ◌≤◌, Bool, true, false, List, [], ◌∷◌}
+use Rattle.std.specs.Prelude.{◌≡◌, ℕ, ◌+◌, ◌*◌, ◌≤◌, List, [], ◌∷◌, Some, None, Option}
 use Rattle.effect.specs.Laws.{Operations, limit}
 use Rattle.effect.specs.Rearranging.{Rearranged}
 
@@ -19,7 +19,7 @@ pub record Summed {V : Type 0} (e : Operations V) (xs : List V) (r : V) : Type 0
   pub any_order : (ys : List V) → Rearranged xs ys → r ≡ total e ys
   pub reach : e.reach r ≤ reaches e xs
 
--- r is p times a where a is taken; where it is not, r is zero, which is 0 times a
-pub record Counted {V : Type 0} (e : Operations V) (a : V) (p : ℕ) (taken : Bool) (r : V) : Type 0 where
-  pub if_taken : taken ≡ true → p * e.reach a ≤ limit → r ≡ e.times p a
-  pub if_not : taken ≡ false → (r ≡ e.nil) × (r ≡ e.times 0 a)
+-- r is p times a where a is taken so often; where it is not taken, r is zero, which is 0 times a
+pub record Counted {V : Type 0} (e : Operations V) (a : V) (taken : Option ℕ) (r : V) : Type 0 where
+  pub if_taken : (p : ℕ) → taken ≡ Some p → p * e.reach a ≤ limit → r ≡ e.times p a
+  pub if_not : taken ≡ None → (r ≡ e.nil) × (r ≡ e.times 0 a)

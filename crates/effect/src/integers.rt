@@ -1,9 +1,6 @@
-// Signed numbers: multiples within the limit, the order, and the places of a list.
+// Signed numbers: multiples within the limit, and the places of a list.
 ghost use Rattle.std.specs.Prelude.{◌≡◌, ◌*◌, ◌≤◌, pos, ◌*ℤ◌, slice_index_or, unsigned_abs};
 ghost use Rattle.effect.specs.Laws.{limit};
-ghost use Rattle.effect.specs.Models.{order_z};
-
-use std::cmp::Ordering;
 
 // p times z, while that stays within the limit.
 pub(crate) fn scaled(z: i64, p: u64) -> i64
@@ -15,19 +12,9 @@ pub(crate) fn scaled(z: i64, p: u64) -> i64
     }
 }
 
-pub(crate) fn ranked(a: i64, b: i64) -> Ordering
-    ensures { result ≡ order_z a b }
-{
-    a.cmp(&b)
-}
-
 // The number at a place, 0 past the end.
 pub(crate) fn at(numbers: &[i64], place: usize) -> i64
     ensures { result ≡ slice_index_or numbers.now place (pos 0) }
 {
-    if place < numbers.len() {
-        numbers[place]
-    } else {
-        0
-    }
+    numbers.get(place).copied().unwrap_or(0)
 }

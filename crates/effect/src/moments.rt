@@ -2,12 +2,12 @@
 ghost use Rattle.effect.specs.Models.{moments, two_numbers};
 ghost use Rattle.effect.specs.MomentLaws.{moment_laws, moment_notation};
 
-use crate::integers::{at, ranked, scaled};
+use crate::integers::{at, scaled};
 use crate::traits::{Effect, Written};
 use std::cmp::Ordering;
 
 // An axial force with its corresponding moment, compared by force and, where the forces are equal, by moment.
-#[derive(Clone, Copy, PartialEq, Eq, Debug)]
+#[derive(Clone, Copy, PartialEq, Eq, PartialOrd, Ord, Debug)]
 pub struct NM {
     pub force: i64,
     pub moment: i64,
@@ -40,7 +40,7 @@ impl Effect for NM {
     }
 
     fn compare(self, other: NM) -> Ordering {
-        ranked(self.force, other.force).then(ranked(self.moment, other.moment))
+        self.cmp(&other)
     }
 
     fn reach(self) -> u64 {

@@ -1,6 +1,7 @@
 // The words by which a text names the effect types.
-ghost use Rattle.std.specs.Prelude.{◌≡◌};
-ghost use Rattle.effect.specs.Names.{effect_word, Spelt};
+ghost use Rattle.effect.specs.Names.{effect_word, effect_words};
+
+use words::Word;
 
 #[derive(Clone, Copy, PartialEq, Eq, Debug)]
 pub enum EffectName {
@@ -10,20 +11,19 @@ pub enum EffectName {
     Nm,
 }
 
-impl EffectName {
-    pub fn word(self) -> &'static str
-        ensures { result.now ≡ effect_word self }
-    {
+impl Word for EffectName {
+    ghost word_of = { effect_word };
+
+    ghost lawful = { effect_words };
+
+    fn word(self) -> &'static str {
         match self {
             EffectName::N => "N",
             EffectName::Nm => "NM",
         }
     }
 
-    // The effect type that a word names, None where it names none.
-    pub fn from_word(text: &[u8]) -> Option<EffectName>
-        ensures { Spelt effect_word text.now result }
-    {
+    fn from_word(text: &[u8]) -> Option<EffectName> {
         match text {
             b"N" => Some(EffectName::N),
             b"NM" => Some(EffectName::Nm),

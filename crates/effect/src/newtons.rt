@@ -2,12 +2,12 @@
 ghost use Rattle.effect.specs.Models.{forces, one_number};
 ghost use Rattle.effect.specs.ForceLaws.{force_laws, force_notation};
 
-use crate::integers::{at, ranked, scaled};
+use crate::integers::{at, scaled};
 use crate::traits::{Effect, Written};
 use std::cmp::Ordering;
 
 // A force in newtons.
-#[derive(Clone, Copy, PartialEq, Eq, Debug)]
+#[derive(Clone, Copy, PartialEq, Eq, PartialOrd, Ord, Debug)]
 pub struct N {
     pub force: i64,
 }
@@ -33,7 +33,7 @@ impl Effect for N {
     }
 
     fn compare(self, other: N) -> Ordering {
-        ranked(self.force, other.force)
+        self.cmp(&other)
     }
 
     fn reach(self) -> u64 {

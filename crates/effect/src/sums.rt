@@ -16,9 +16,12 @@ pub fn sum_all<E: Effect>(effects: &[E]) -> E
     sum
 }
 
-// p times an effect where it is taken, while that is within the limit; zero where it is not taken.
-pub fn multiple_if<E: Effect>(effect: E, p: u64, taken: bool) -> E
-    ensures { Counted E.means effect p taken result }
+// p times an effect, while that is within the limit; zero where it is not taken, with no p.
+pub fn multiple_if<E: Effect>(effect: E, taken: Option<u64>) -> E
+    ensures { Counted E.means effect taken result }
 {
-    if taken { effect.multiple(p) } else { E::zero() }
+    match taken {
+        Some(p) => effect.multiple(p),
+        None => E::zero(),
+    }
 }

@@ -101,8 +101,8 @@ fn order_and_sum_of_any_type(rt: HostRuntime) {
     assert_eq!(rt; larger(b, a), b);
     assert_eq!(rt; sum_all(&[a, b, b]), N { force: 4 });
     assert_eq!(rt; sum_all::<N>(&[]), N::zero());
-    assert_eq!(rt; multiple_if(b, 4, true), N { force: 12 });
-    assert_eq!(rt; multiple_if(b, 4, false), N::zero());
+    assert_eq!(rt; multiple_if(b, Some(4)), N { force: 12 });
+    assert_eq!(rt; multiple_if(b, None), N::zero());
 }
 
 #[test]

@@ -1,5 +1,7 @@
 -- The letters of the kinds.
-use Rattle.std.specs.Prelude.{◌≡◌, ℕ, Some, None, Option, ◌≢◌}
+use Rattle.std.specs.Prelude.{◌≡◌, ℕ, Ok, Err, Result, ◌≢◌}
+use Rattle.refusals.specs.declared.Refusal.{Refusal}
+use Rattle.refusals.specs.declared.Refusal.TheVariants.{KindLetter}
 use Rattle.loads.specs.declared.kinds.Kind.{Kind}
 use Rattle.loads.specs.declared.kinds.Kind.TheVariants.{Permanent, LongTerm, ShortTerm, Special}
 
@@ -11,6 +13,6 @@ letter_of ShortTerm = 84
 letter_of Special = 83
 
 -- the kind that a letter stands for, or that it stands for none
-abbrev pub KindOf : ℕ → Option Kind → Type 0
-KindOf letter (Some k) = letter_of k ≡ letter
-KindOf letter None = (k : Kind) → letter_of k ≢ letter
+abbrev pub KindOf : ℕ → Result Kind Refusal → Type 0
+KindOf letter (Ok k) = letter_of k ≡ letter
+KindOf letter (Err e) = (e ≡ KindLetter) × ((k : Kind) → letter_of k ≢ letter)

@@ -2,6 +2,8 @@
 ghost use Rattle.std.specs.Prelude.{◌≡◌};
 ghost use Rattle.loads.specs.Letters.{letter_of, KindOf};
 
+use refusals::Refusal;
+
 #[derive(Clone, Copy, PartialEq, Eq, Debug)]
 pub enum Kind {
     Permanent = 'P' as isize,
@@ -17,17 +19,21 @@ impl Kind {
     {
         self as u8 as char
     }
+}
 
-    // The kind that a letter stands for.
-    pub fn of_letter(letter: char) -> Option<Kind>
-        ensures { KindOf letter result }
-    {
+// The kind that a letter stands for.
+impl TryFrom<char> for Kind {
+    type Error = Refusal;
+
+    ghost try_from_gives = { KindOf };
+
+    fn try_from(letter: char) -> Result<Kind, Refusal> {
         match letter {
-            'P' => Some(Kind::Permanent),
-            'L' => Some(Kind::LongTerm),
-            'T' => Some(Kind::ShortTerm),
-            'S' => Some(Kind::Special),
-            _ => None,
+            'P' => Ok(Kind::Permanent),
+            'L' => Ok(Kind::LongTerm),
+            'T' => Ok(Kind::ShortTerm),
+            'S' => Ok(Kind::Special),
+            _ => Err(Refusal::KindLetter),
         }
     }
 }

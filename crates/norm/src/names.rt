@@ -1,6 +1,7 @@
 // The names of the norms.
-ghost use Rattle.std.specs.Prelude.{◌≡◌};
-ghost use Rattle.norm.specs.Words.{norm_word, Named};
+ghost use Rattle.norm.specs.Words.{norm_word, norm_words};
+
+use words::Word;
 
 #[derive(Clone, Copy, PartialEq, Eq, Debug)]
 pub enum NormName {
@@ -10,21 +11,19 @@ pub enum NormName {
     Snip85,
 }
 
-impl NormName {
-    // The word by which a text names the norm.
-    pub fn word(self) -> &'static str
-        ensures { result.now ≡ norm_word self }
-    {
+impl Word for NormName {
+    ghost word_of = { norm_word };
+
+    ghost lawful = { norm_words };
+
+    fn word(self) -> &'static str {
         match self {
             NormName::Sp20 => "SP20",
             NormName::Snip85 => "SNIP85",
         }
     }
 
-    // The norm that a word names.
-    pub fn from_word(text: &[u8]) -> Option<NormName>
-        ensures { Named text.now result }
-    {
+    fn from_word(text: &[u8]) -> Option<NormName> {
         match text {
             b"SP20" => Some(NormName::Sp20),
             b"SNIP85" => Some(NormName::Snip85),

@@ -6,9 +6,9 @@ use Rattle.effect.specs.Laws.{Operations}
 use Rattle.refusals.specs.Numbers.{number_of}
 use Rattle.sheet.specs.Checks.{LoadCause}
 use Rattle.sheet.specs.Ledger.{Due, Clear, Missing, Replaced, Cause}
+use Rattle.sheet.specs.declared.changes.Entry.{Entry}
 use Rattle.sheet.specs.declared.changes.Change.TheVariants.{Enter, Alter, Strike}
 use Rattle.loads.specs.Rules.{NumberIn}
-use Rattle.loads.specs.declared.records.Load.{Load}
 use Rattle.loads.specs.declared.records.Record.{Record}
 use Rattle.refusals.specs.declared.Refusal.{Refusal}
 use Rattle.refusals.specs.declared.Refusal.TheVariants.{RecordNumber, KindLetter, LoadFactor, Reduction, Group, Reach, NumberTaken, NumberMissing, SheetFull, NoSpecialLoad, Header, BodyLine, OutputTooLong, ColumnValue}
@@ -46,8 +46,8 @@ module _ {E : Type 0} where
   pub struck : (n : ℕ) (s b : List (Record E)) → s ≡ b → (i : ℕ) → Place n s i → Replaced b n [] (remove b i)
   struck n s b same i at = let at_i = place_split n s b same i at in (at_i.front, at_i.here, at_i.back, at_i.whole, at_i.holds, at_i.taken)
 
-module _ {E : Type 0} (o : Operations E) (n l : ℕ) (x : Load E) (b : List (Record E)) where
-  load_low : (own : Option ℕ) (f : Refusal) → LoadCause o own n l x b f → number_of f < 7
+module _ {E : Type 0} (o : Operations E) (x : Entry E) (b : List (Record E)) where
+  load_low : (own : Option ℕ) (f : Refusal) → LoadCause o own x b f → number_of f < 7
   load_low own RecordNumber h = omega arith
   load_low own KindLetter h = omega arith
   load_low own LoadFactor h = omega arith
@@ -64,7 +64,7 @@ module _ {E : Type 0} (o : Operations E) (n l : ℕ) (x : Load E) (b : List (Rec
   load_low own ColumnValue h = absurd h
 
   -- up to the reach, an entry and an alteration are refused for what is wrong with the record
-  enter_like : (p : ℕ) (f : Refusal) → number_of f < 7 → (LoadCause o None n l x b f → Cause o p b (Enter n l x) f) × (Cause o p b (Enter n l x) f → LoadCause o None n l x b f)
+  enter_like : (p : ℕ) (f : Refusal) → number_of f < 7 → (LoadCause o None x b f → Cause o p b (Enter x) f) × (Cause o p b (Enter x) f → LoadCause o None x b f)
   enter_like p RecordNumber lt = (λ h. h, λ h. h)
   enter_like p KindLetter lt = (λ h. h, λ h. h)
   enter_like p LoadFactor lt = (λ h. h, λ h. h)
@@ -80,7 +80,7 @@ module _ {E : Type 0} (o : Operations E) (n l : ℕ) (x : Load E) (b : List (Rec
   enter_like p OutputTooLong lt = absurd (omega arith)
   enter_like p ColumnValue lt = absurd (omega arith)
 
-  alter_like : (p : ℕ) (f : Refusal) → number_of f < 7 → (LoadCause o (Some n) n l x b f → Cause o p b (Alter n l x) f) × (Cause o p b (Alter n l x) f → LoadCause o (Some n) n l x b f)
+  alter_like : (p : ℕ) (f : Refusal) → number_of f < 7 → (LoadCause o (Some x.number) x b f → Cause o p b (Alter x) f) × (Cause o p b (Alter x) f → LoadCause o (Some x.number) x b f)
   alter_like p RecordNumber lt = (λ h. h, λ h. h)
   alter_like p KindLetter lt = (λ h. h, λ h. h)
   alter_like p LoadFactor lt = (λ h. h, λ h. h)
@@ -97,37 +97,37 @@ module _ {E : Type 0} (o : Operations E) (n l : ℕ) (x : Load E) (b : List (Rec
   alter_like p ColumnValue lt = absurd (omega arith)
 
   module _ (s : List (Record E)) (same : s ≡ b) where
-    pub enter_due : (p : ℕ) (e : Refusal) → Due (LoadCause o None n l x s) e → Due (Cause o p b (Enter n l x)) e
-    enter_due p e due = due_like (LoadCause o None n l x b) (Cause o p b (Enter n l x)) 7 (load_low None) (enter_like p) e (subst (λ t. Due (LoadCause o None n l x t) e) same due)
+    pub enter_due : (p : ℕ) (e : Refusal) → Due (LoadCause o None x s) e → Due (Cause o p b (Enter x)) e
+    enter_due p e due = due_like (LoadCause o None x b) (Cause o p b (Enter x)) 7 (load_low None) (enter_like p) e (subst (λ t. Due (LoadCause o None x t) e) same due)
 
-    pub alter_due : (p : ℕ) (e : Refusal) → Due (LoadCause o (Some n) n l x s) e → Due (Cause o p b (Alter n l x)) e
-    alter_due p e due = due_like (LoadCause o (Some n) n l x b) (Cause o p b (Alter n l x)) 7 (load_low (Some n)) (alter_like p) e (subst (λ t. Due (LoadCause o (Some n) n l x t) e) same due)
+    pub alter_due : (p : ℕ) (e : Refusal) → Due (LoadCause o (Some x.number) x s) e → Due (Cause o p b (Alter x)) e
+    alter_due p e due = due_like (LoadCause o (Some x.number) x b) (Cause o p b (Alter x)) 7 (load_low (Some x.number)) (alter_like p) e (subst (λ t. Due (LoadCause o (Some x.number) x t) e) same due)
 
-    pub enter_sound : (p : ℕ) → Clear (LoadCause o None n l x s) → Below (Cause o p b (Enter n l x)) 7
-    enter_sound p clear f lt h = clear f (subst (λ t. LoadCause o None n l x t f) (sym same) ((enter_like p f lt).1 h))
+    pub enter_sound : (p : ℕ) → Clear (LoadCause o None x s) → Below (Cause o p b (Enter x)) 7
+    enter_sound p clear f lt h = clear f (subst (λ t. LoadCause o None x t f) (sym same) ((enter_like p f lt).1 h))
 
-    pub alter_sound : (p : ℕ) → Clear (LoadCause o (Some n) n l x s) → Below (Cause o p b (Alter n l x)) 8
+    pub alter_sound : (p : ℕ) → Clear (LoadCause o (Some x.number) x s) → Below (Cause o p b (Alter x)) 8
     alter_sound p clear =
-        below_next (Cause o p b (Alter n l x)) NumberTaken (λ h. h)
-        (λ f lt h. clear f (subst (λ t. LoadCause o (Some n) n l x t f) (sym same) ((alter_like p f lt).1 h)))
+        below_next (Cause o p b (Alter x)) NumberTaken (λ h. h)
+        (λ f lt h. clear f (subst (λ t. LoadCause o (Some x.number) x t f) (sym same) ((alter_like p f lt).1 h)))
 
-    pub enter_free : (p : ℕ) → Clear (LoadCause o None n l x s) → Missing n b → Below (Cause o p b (Enter n l x)) 9
+    pub enter_free : (p : ℕ) → Clear (LoadCause o None x s) → Missing x.number b → Below (Cause o p b (Enter x)) 9
     enter_free p clear missing =
-        below_next (Cause o p b (Enter n l x)) NumberMissing (λ h. h)
-        (below_next (Cause o p b (Enter n l x)) NumberTaken (λ taken. taken missing) (enter_sound p clear))
+        below_next (Cause o p b (Enter x)) NumberMissing (λ h. h)
+        (below_next (Cause o p b (Enter x)) NumberTaken (λ taken. taken missing) (enter_sound p clear))
 
-    pub enter_clear : (p : ℕ) → Clear (LoadCause o None n l x s) → Missing n b → length b < p → Clear (Cause o p b (Enter n l x))
+    pub enter_clear : (p : ℕ) → Clear (LoadCause o None x s) → Missing x.number b → length b < p → Clear (Cause o p b (Enter x))
     enter_clear p clear missing room =
-        clear_all (Cause o p b (Enter n l x)) (λ h. h) (λ h. h) (λ h. h) (λ h. h)
-        (below_next (Cause o p b (Enter n l x)) NoSpecialLoad (λ h. h)
-        (below_next (Cause o p b (Enter n l x)) SheetFull (λ full. omega arith) (enter_free p clear missing)))
+        clear_all (Cause o p b (Enter x)) (λ h. h) (λ h. h) (λ h. h) (λ h. h)
+        (below_next (Cause o p b (Enter x)) NoSpecialLoad (λ h. h)
+        (below_next (Cause o p b (Enter x)) SheetFull (λ full. omega arith) (enter_free p clear missing)))
 
-    pub alter_clear : (p : ℕ) → Clear (LoadCause o (Some n) n l x s) → (Missing n b → ⊥) → Clear (Cause o p b (Alter n l x))
+    pub alter_clear : (p : ℕ) → Clear (LoadCause o (Some x.number) x s) → (Missing x.number b → ⊥) → Clear (Cause o p b (Alter x))
     alter_clear p clear listed =
-        clear_all (Cause o p b (Alter n l x)) (λ h. h) (λ h. h) (λ h. h) (λ h. h)
-        (below_next (Cause o p b (Alter n l x)) NoSpecialLoad (λ h. h)
-        (below_next (Cause o p b (Alter n l x)) SheetFull (λ h. h)
-        (below_next (Cause o p b (Alter n l x)) NumberMissing listed (alter_sound p clear))))
+        clear_all (Cause o p b (Alter x)) (λ h. h) (λ h. h) (λ h. h) (λ h. h)
+        (below_next (Cause o p b (Alter x)) NoSpecialLoad (λ h. h)
+        (below_next (Cause o p b (Alter x)) SheetFull (λ h. h)
+        (below_next (Cause o p b (Alter x)) NumberMissing listed (alter_sound p clear))))
 
 module _ {E : Type 0} (o : Operations E) (p n : ℕ) (b : List (Record E)) (number : NumberIn n) where
   pub strike_sound : Below (Cause o p b (Strike n)) 8

@@ -9,7 +9,7 @@ use Rattle.loads.specs.Letters.{letter_of}
 use Rattle.loads.specs.Rules.{NumberIn, FactorsIn, ReductionIn, ReachIn}
 use Rattle.loads.specs.declared.kinds.Kind.{Kind}
 use Rattle.loads.specs.declared.kinds.Kind.TheVariants.{Permanent, LongTerm, ShortTerm, Special}
-use Rattle.loads.specs.declared.records.Load.{Load}
+use Rattle.sheet.specs.declared.changes.Entry.{Entry}
 use Rattle.loads.specs.declared.records.Record.{Record}
 use Rattle.refusals.specs.declared.Refusal.{Refusal}
 use Rattle.refusals.specs.declared.Refusal.TheVariants.{RecordNumber, KindLetter, LoadFactor, Reduction, Group, Reach, NumberTaken, NumberMissing, SheetFull, NoSpecialLoad, Header, BodyLine, OutputTooLong, ColumnValue}
@@ -96,28 +96,28 @@ due_like C D n low like e due =
     ((like e lt).0 due.0, λ f less h. due.1 f less ((like f (omega arith)).1 h))
 
 -- what is ruled out of a record that is handed in, check by check
-module _ {E : Type 0} (o : Operations E) (own : Option ℕ) (n l : ℕ) (x : Load E) (b : List (Record E)) (k : Kind) (is : letter_of k ≡ l) (number : NumberIn n) where
+module _ {E : Type 0} (o : Operations E) (own : Option ℕ) (x : Entry E) (b : List (Record E)) (k : Kind) (is : letter_of k ≡ x.letter) (number : NumberIn x.number) where
   abbrev Load-below : ℕ → Type 0
-  Load-below m = Below (LoadCause o own n l x b) m
+  Load-below m = Below (LoadCause o own x b) m
 
   pub to_factor : Load-below 3
   to_factor =
       below_next _ KindLetter (λ none. none k is)
       (below_next _ RecordNumber (λ out. out number) (below_first _))
 
-  module _ (factors : FactorsIn k x.upper x.lower) where
+  module _ (factors : FactorsIn k x.load.upper x.load.lower) where
     pub to_reduction : Load-below 4
-    to_reduction = below_next _ LoadFactor (not_against _ l k is factors) to_factor
+    to_reduction = below_next _ LoadFactor (not_against _ x.letter k is factors) to_factor
 
-    module _ (reduction : ReductionIn k x.class x.area x.storeys) where
+    module _ (reduction : ReductionIn k x.load.class x.load.area x.load.storeys) where
       pub to_group : Load-below 5
-      to_group = below_next _ Reduction (not_against _ l k is reduction) to_reduction
+      to_group = below_next _ Reduction (not_against _ x.letter k is reduction) to_reduction
 
-      module _ (group : GroupRule own x.group b k) where
+      module _ (group : GroupRule own x.load.group b k) where
         pub to_reach : Load-below 6
-        to_reach = below_next _ Group (not_against _ l k is group) to_group
+        to_reach = below_next _ Group (not_against _ x.letter k is group) to_group
 
-        pub load_clear : ReachIn o x → Clear (LoadCause o own n l x b)
+        pub load_clear : ReachIn o x.load → Clear (LoadCause o own x b)
         load_clear reach =
             clear_all _ (λ h. h) (λ h. h) (λ h. h) (λ h. h)
             (below_next _ NoSpecialLoad (λ h. h)

@@ -8,9 +8,9 @@ use Rattle.loads.specs.Letters.{letter_of}
 use Rattle.loads.specs.Rules.{NumberIn, LowerIn, FactorsIn, Plain, Reduced, ReductionIn, GroupIn, Ruled}
 use Rattle.loads.specs.declared.kinds.Kind.{Kind}
 use Rattle.loads.specs.declared.kinds.Kind.TheVariants.{Permanent, LongTerm, ShortTerm, Special}
-use Rattle.loads.specs.declared.records.Load.{Load}
 use Rattle.loads.specs.declared.records.Record.{Record}
 use Rattle.sheet.specs.Ledger.{Clear, Cause, Other, Agrees, record_of}
+use Rattle.sheet.specs.declared.changes.Entry.{Entry}
 use Rattle.sheet.specs.declared.changes.Change.TheVariants.{Enter, Alter}
 use Rattle.sheet.proofs.Causes.{same_kind}
 
@@ -84,34 +84,34 @@ all_stable P (x ∷ xs) each nn = (each x (λ n. nn (λ h. n h.0)), all_stable P
 agrees_stable : {E : Type 0} (own : Option ℕ) (k : Kind) (g : ℕ) (b : List (Record E)) → Stable (AllByRecursion (λ r. Other own r → Agrees k g r) b)
 agrees_stable own k g b = all_stable _ b (λ r nn other some same. kind_stable r.kind k (λ n. nn (λ h. n (h other some same))))
 
-module _ {E : Type 0} (o : Operations E) (p : ℕ) (b : List (Record E)) (n l : ℕ) (x : Load E) (k : Kind) (is : letter_of k ≡ l) where
+module _ {E : Type 0} (o : Operations E) (p : ℕ) (b : List (Record E)) (x : Entry E) (k : Kind) (is : letter_of k ≡ x.letter) where
   -- an accepted record agrees with the others in its group
-  pub enter_agrees : Clear (Cause o p b (Enter n l x)) → AllByRecursion (λ r. Agrees k x.group r) b
-  enter_agrees clear = all_map b (agrees_stable None k x.group b (λ not. clear Group (k, is, λ h. not h.1)))
+  pub enter_agrees : Clear (Cause o p b (Enter x)) → AllByRecursion (λ r. Agrees k x.load.group r) b
+  enter_agrees clear = all_map b (agrees_stable None k x.load.group b (λ not. clear Group (k, is, λ h. not h.1)))
     where
-      all_map : (b : List (Record E)) → AllByRecursion (λ r. Other None r → Agrees k x.group r) b → AllByRecursion (λ r. Agrees k x.group r) b
+      all_map : (b : List (Record E)) → AllByRecursion (λ r. Other None r → Agrees k x.load.group r) b → AllByRecursion (λ r. Agrees k x.load.group r) b
       all_map [] h = tt
       all_map (r ∷ b) h = (h.0 tt, all_map b h.1)
 
-  pub alter_agrees : Clear (Cause o p b (Alter n l x)) → AllByRecursion (λ r. Other (Some n) r → Agrees k x.group r) b
-  alter_agrees clear = agrees_stable (Some n) k x.group b (λ not. clear Group (k, is, λ h. not h.1))
+  pub alter_agrees : Clear (Cause o p b (Alter x)) → AllByRecursion (λ r. Other (Some x.number) r → Agrees k x.load.group r) b
+  alter_agrees clear = agrees_stable (Some x.number) k x.load.group b (λ not. clear Group (k, is, λ h. not h.1))
 
   -- the record of an accepted entry keeps the rules
-  pub enter_ruled : Clear (Cause o p b (Enter n l x)) → Ruled o (record_of n k x)
+  pub enter_ruled : Clear (Cause o p b (Enter x)) → Ruled o (record_of x k)
   enter_ruled clear = record {
-    number = number_stable n (clear RecordNumber);
-    factors = factors_stable k x.upper x.lower (λ not. clear LoadFactor (k, is, not));
-    reduction = reduction_stable k x.class x.area x.storeys (λ not. clear Reduction (k, is, not));
-    group = group_stable k x.group (λ not. clear Group (k, is, λ h. not h.0));
+    number = number_stable x.number (clear RecordNumber);
+    factors = factors_stable k x.load.upper x.load.lower (λ not. clear LoadFactor (k, is, not));
+    reduction = reduction_stable k x.load.class x.load.area x.load.storeys (λ not. clear Reduction (k, is, not));
+    group = group_stable k x.load.group (λ not. clear Group (k, is, λ h. not h.0));
     reach = le_stable _ _ (clear Reach);
   }
 
   -- and so does that of an accepted alteration
-  pub alter_ruled : Clear (Cause o p b (Alter n l x)) → Ruled o (record_of n k x)
+  pub alter_ruled : Clear (Cause o p b (Alter x)) → Ruled o (record_of x k)
   alter_ruled clear = record {
-    number = number_stable n (clear RecordNumber);
-    factors = factors_stable k x.upper x.lower (λ not. clear LoadFactor (k, is, not));
-    reduction = reduction_stable k x.class x.area x.storeys (λ not. clear Reduction (k, is, not));
-    group = group_stable k x.group (λ not. clear Group (k, is, λ h. not h.0));
+    number = number_stable x.number (clear RecordNumber);
+    factors = factors_stable k x.load.upper x.load.lower (λ not. clear LoadFactor (k, is, not));
+    reduction = reduction_stable k x.load.class x.load.area x.load.storeys (λ not. clear Reduction (k, is, not));
+    group = group_stable k x.load.group (λ not. clear Group (k, is, λ h. not h.0));
     reach = le_stable _ _ (clear Reach);
   }

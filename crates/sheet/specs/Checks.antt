@@ -6,24 +6,24 @@ use Rattle.refusals.specs.declared.Refusal.TheVariants.{RecordNumber, KindLetter
 use Rattle.loads.specs.Letters.{letter_of}
 use Rattle.loads.specs.Rules.{NumberIn, FactorsIn, ReductionIn, ReachIn}
 use Rattle.loads.specs.declared.kinds.Kind.{Kind}
-use Rattle.loads.specs.declared.records.Load.{Load}
 use Rattle.loads.specs.declared.records.Record.{Record}
 use Rattle.sheet.specs.Ledger.{Against, GroupRule}
+use Rattle.sheet.specs.declared.changes.Entry.{Entry}
 
 module _ {E : Type 0} (o : Operations E) where
   -- what is wrong with a record that is handed in; own is the number that the group rule leaves out
-  abbrev pub LoadCause : Option ℕ → ℕ → ℕ → Load E → List (Record E) → Refusal → Type 0
-  LoadCause own n l x b RecordNumber = NumberIn n → ⊥
-  LoadCause own n l x b KindLetter = (k : Kind) → letter_of k ≢ l
-  LoadCause own n l x b LoadFactor = Against l (λ k. FactorsIn k x.upper x.lower)
-  LoadCause own n l x b Reduction = Against l (λ k. ReductionIn k x.class x.area x.storeys)
-  LoadCause own n l x b Group = Against l (GroupRule own x.group b)
-  LoadCause own n l x b Reach = ReachIn o x → ⊥
-  LoadCause own n l x b NumberTaken = ⊥
-  LoadCause own n l x b NumberMissing = ⊥
-  LoadCause own n l x b SheetFull = ⊥
-  LoadCause own n l x b NoSpecialLoad = ⊥
-  LoadCause own n l x b Header = ⊥
-  LoadCause own n l x b BodyLine = ⊥
-  LoadCause own n l x b OutputTooLong = ⊥
-  LoadCause own n l x b ColumnValue = ⊥
+  abbrev pub LoadCause : Option ℕ → Entry E → List (Record E) → Refusal → Type 0
+  LoadCause own x b RecordNumber = NumberIn x.number → ⊥
+  LoadCause own x b KindLetter = (k : Kind) → letter_of k ≢ x.letter
+  LoadCause own x b LoadFactor = Against x.letter (λ k. FactorsIn k x.load.upper x.load.lower)
+  LoadCause own x b Reduction = Against x.letter (λ k. ReductionIn k x.load.class x.load.area x.load.storeys)
+  LoadCause own x b Group = Against x.letter (GroupRule own x.load.group b)
+  LoadCause own x b Reach = ReachIn o x.load → ⊥
+  LoadCause own x b NumberTaken = ⊥
+  LoadCause own x b NumberMissing = ⊥
+  LoadCause own x b SheetFull = ⊥
+  LoadCause own x b NoSpecialLoad = ⊥
+  LoadCause own x b Header = ⊥
+  LoadCause own x b BodyLine = ⊥
+  LoadCause own x b OutputTooLong = ⊥
+  LoadCause own x b ColumnValue = ⊥

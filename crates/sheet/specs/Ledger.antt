@@ -8,9 +8,9 @@ use Rattle.refusals.specs.declared.Refusal.TheVariants.{RecordNumber, KindLetter
 use Rattle.loads.specs.Letters.{letter_of}
 use Rattle.loads.specs.Rules.{NumberIn, FactorsIn, ReductionIn, GroupIn, ReachIn}
 use Rattle.loads.specs.declared.kinds.Kind.{Kind}
-use Rattle.loads.specs.declared.records.Load.{Load}
 use Rattle.loads.specs.declared.records.Record.{Record}
 use Rattle.sheet.specs.declared.changes.Change.{Change}
+use Rattle.sheet.specs.declared.changes.Entry.{Entry}
 use Rattle.sheet.specs.declared.changes.Change.TheVariants.{Enter, Alter, Strike}
 
 -- of the causes C, that of e holds and none of a smaller number
@@ -45,30 +45,31 @@ module _ {E : Type 0} where
 
   -- the record number that a change names
   abbrev pub named : Change E → ℕ
-  named (Enter n l x) = n
-  named (Alter n l x) = n
+  named (Enter x) = x.number
+  named (Alter x) = x.number
   named (Strike n) = n
 
-  -- P of the letter and the load that are handed in; an alteration leaves its own record out of the group rule
-  abbrev pub Handed : Change E → (Option ℕ → ℕ → Load E → Type 0) → Type 0
-  Handed (Enter n l x) P = P None l x
-  Handed (Alter n l x) P = P (Some n) l x
+  -- P of what is handed in; an alteration leaves its own record out of the group rule
+  abbrev pub Handed : Change E → (Option ℕ → Entry E → Type 0) → Type 0
+  Handed (Enter x) P = P None x
+  Handed (Alter x) P = P (Some x.number) x
   Handed (Strike n) P = ⊥
 
   -- P of the record number of an entry
   abbrev pub Entered : Change E → (ℕ → Type 0) → Type 0
-  Entered (Enter n l x) P = P n
-  Entered (Alter n l x) P = ⊥
+  Entered (Enter x) P = P x.number
+  Entered (Alter x) P = ⊥
   Entered (Strike n) P = ⊥
 
   -- P of the record number that an alteration or a striking-off looks for
   abbrev pub Sought : Change E → (ℕ → Type 0) → Type 0
-  Sought (Enter n l x) P = ⊥
-  Sought (Alter n l x) P = P n
+  Sought (Enter x) P = ⊥
+  Sought (Alter x) P = P x.number
   Sought (Strike n) P = P n
 
-  abbrev pub record_of : ℕ → Kind → Load E → Record E
-  record_of n k x = record { number = n; kind = k; load = x }
+  -- the record of an entry, where its letter stands for the kind k
+  abbrev pub record_of : Entry E → Kind → Record E
+  record_of x k = record { number = x.number; kind = k; load = x.load }
 
   -- b has a record of the number n, and b' is b with these records in its place
   abbrev pub Replaced : List (Record E) → ℕ → List (Record E) → List (Record E) → Type 0
@@ -76,19 +77,19 @@ module _ {E : Type 0} where
 
   -- what an accepted change makes of the records b: an entry adds one at the end, an alteration replaces one, a striking-off removes one
   abbrev pub Changed : List (Record E) → Change E → List (Record E) → Type 0
-  Changed b (Enter n l x) b' = (k : Kind) × (letter_of k ≡ l) × (b' ≡ b ++ record_of n k x ∷ [])
-  Changed b (Alter n l x) b' = (k : Kind) × (letter_of k ≡ l) × Replaced b n (record_of n k x ∷ []) b'
+  Changed b (Enter x) b' = (k : Kind) × (letter_of k ≡ x.letter) × (b' ≡ b ++ record_of x k ∷ [])
+  Changed b (Alter x) b' = (k : Kind) × (letter_of k ≡ x.letter) × Replaced b x.number (record_of x k ∷ []) b'
   Changed b (Strike n) b' = Replaced b n [] b'
 
 module _ {E : Type 0} (o : Operations E) where
   -- the cause of each refusal, where p places hold the records b
   abbrev pub Cause : ℕ → List (Record E) → Change E → Refusal → Type 0
   Cause p b c RecordNumber = NumberIn (named c) → ⊥
-  Cause p b c KindLetter = Handed c (λ own l x. (k : Kind) → letter_of k ≢ l)
-  Cause p b c LoadFactor = Handed c (λ own l x. Against l (λ k. FactorsIn k x.upper x.lower))
-  Cause p b c Reduction = Handed c (λ own l x. Against l (λ k. ReductionIn k x.class x.area x.storeys))
-  Cause p b c Group = Handed c (λ own l x. Against l (GroupRule own x.group b))
-  Cause p b c Reach = Handed c (λ own l x. ReachIn o x → ⊥)
+  Cause p b c KindLetter = Handed c (λ own x. (k : Kind) → letter_of k ≢ x.letter)
+  Cause p b c LoadFactor = Handed c (λ own x. Against x.letter (λ k. FactorsIn k x.load.upper x.load.lower))
+  Cause p b c Reduction = Handed c (λ own x. Against x.letter (λ k. ReductionIn k x.load.class x.load.area x.load.storeys))
+  Cause p b c Group = Handed c (λ own x. Against x.letter (GroupRule own x.load.group b))
+  Cause p b c Reach = Handed c (λ own x. ReachIn o x.load → ⊥)
   Cause p b c NumberTaken = Entered c (λ n. Missing n b → ⊥)
   Cause p b c NumberMissing = Sought c (λ n. Missing n b)
   Cause p b c SheetFull = Entered c (λ n. p ≤ length b)

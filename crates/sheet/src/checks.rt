@@ -3,9 +3,11 @@ ghost use Rattle.std.specs.Prelude.{◌≡◌, ◌<◌, length, Decides, MatchOp
 ghost use Rattle.std.specs.List.{HoldsAt, AllByRecursion};
 ghost use Rattle.loads.specs.Letters.{letter_of};
 ghost use Rattle.loads.specs.Rules.{NumberIn, FactorsIn, ReductionIn, GroupIn, ReachIn};
+ghost use Rattle.refusals.specs.declared.Refusal.TheVariants.{NumberMissing};
 ghost use Rattle.sheet.specs.Checks.{LoadCause};
 ghost use Rattle.sheet.specs.Ledger.{Other, Agrees, GroupRule, Missing, Due, Clear};
 
+use crate::changes::Entry;
 use effect::Effect;
 use loads::{Kind, Load, Record};
 use refusals::Refusal;
@@ -72,24 +74,25 @@ fn agrees<E: Effect>(beside: &Record<E>, own: Option<u64>, kind: Kind, group: u6
 fn group_fits<E: Effect>(records: &[Record<E>], own: Option<u64>, kind: Kind, group: u64) -> bool
     ensures { Decides result (AllByRecursion (λ b. Other own b → Agrees kind group b) records.now) }
 {
-    for beside in records {
-        if !agrees(beside, own, kind, group) {
-            return false;
-        }
-    }
-    true
+    records.iter().all(
+        |beside|
+            ensures { Decides result (Other own beside.now → Agrees kind group beside.now) }
+        { agrees(beside, own, kind, group) },
+    )
 }
 
 // The place of the record with this number.
 pub(crate) fn position<E: Effect>(records: &[Record<E>], number: u64) -> Option<usize>
     ensures { MatchOption result (Missing number records.now) (λ i. (i < length records.now) × HoldsAt (λ b. b.number ≡ number) records.now i) }
 {
-    for (place, beside) in records.iter().enumerate() {
-        if beside.number == number {
-            return Some(place);
-        }
-    }
-    None
+    records.iter().position(|beside| beside.number == number)
+}
+
+// The same, or the refusal where there is none.
+pub(crate) fn place_of<E: Effect>(records: &[Record<E>], number: u64) -> Result<usize, Refusal>
+    ensures { MatchResult result (λ i. (i < length records.now) × HoldsAt (λ b. b.number ≡ number) records.now i) (λ e. (e ≡ NumberMissing) × Missing number records.now) }
+{
+    position(records, number).ok_or(Refusal::NumberMissing)
 }
 
 // Whether the group rule holds for a record of this kind, by itself and beside the others.
@@ -106,18 +109,15 @@ fn group_rule<E: Effect>(records: &[Record<E>], own: Option<u64>, kind: Kind, gr
 pub(crate) fn checked<E: Effect>(
     records: &[Record<E>],
     own: Option<u64>,
-    number: u64,
-    letter: char,
-    load: &Load<E>,
+    entry: &Entry<E>,
 ) -> Result<Kind, Refusal>
-    ensures { MatchResult result (λ k. (letter_of k ≡ letter) × Clear (LoadCause E.means own number letter load.now records.now)) (λ e. Due (LoadCause E.means own number letter load.now records.now) e) }
+    ensures { MatchResult result (λ k. (letter_of k ≡ entry.now.letter) × Clear (LoadCause E.means own entry.now records.now)) (λ e. Due (LoadCause E.means own entry.now records.now) e) }
 {
-    if !number_in(number) {
+    let load = &entry.load;
+    if !number_in(entry.number) {
         return Err(Refusal::RecordNumber);
     }
-    let Some(kind) = Kind::of_letter(letter) else {
-        return Err(Refusal::KindLetter);
-    };
+    let kind = Kind::try_from(entry.letter)?;
     if !factors_in(kind, load.upper, load.lower) {
         return Err(Refusal::LoadFactor);
     }

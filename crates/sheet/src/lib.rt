@@ -7,5 +7,5 @@ mod store;
 #[cfg(test)]
 mod tests;
 
-pub use changes::Change;
+pub use changes::{Change, Entry};
 pub use store::Sheet;

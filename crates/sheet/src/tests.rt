@@ -1,5 +1,5 @@
 // The order of the causes, and both edges of every range.
-use crate::Sheet;
+use crate::{Entry, Sheet};
 use effect::N;
 use loads::Load;
 use refusals::Refusal;
@@ -16,6 +16,14 @@ fn load(group: u64, upper: u64, lower: u64, reduction: [u64; 3], force: i64) -> 
         area,
         storeys,
         effect,
+    }
+}
+
+fn entry(number: u64, letter: char, load: Load<N>) -> Entry<N> {
+    Entry {
+        number,
+        letter,
+        load,
     }
 }
 
@@ -36,8 +44,8 @@ fn ends_of_the_ranges(rt: HostRuntime) -> Result<(), Fail> {
         (4, 'L', load(1, 80, 0, PLAIN, 0)),
         (5, 'S', load(0, 80, 0, PLAIN, 0)),
     ];
-    for (number, letter, entry) in entries {
-        assert_eq!(rt; sheet.enter(number, letter, entry), Ok(()));
+    for (number, letter, load) in entries {
+        assert_eq!(rt; sheet.enter(entry(number, letter, load)), Ok(()));
     }
     assert_eq!(rt; sheet.records().len(), 6);
     Ok(())
@@ -66,8 +74,8 @@ fn outside_the_ranges(rt: HostRuntime) -> Result<(), Fail> {
             Refusal::Reach,
         ),
     ];
-    for (number, letter, entry, refusal) in entries {
-        assert_eq!(rt; sheet.enter(number, letter, entry), Err(refusal));
+    for (number, letter, load, refusal) in entries {
+        assert_eq!(rt; sheet.enter(entry(number, letter, load)), Err(refusal));
     }
     assert_eq!(rt; sheet.records().len(), 0);
     Ok(())
@@ -77,17 +85,26 @@ fn outside_the_ranges(rt: HostRuntime) -> Result<(), Fail> {
 fn the_smallest_cause_counts(rt: HostRuntime) -> Result<(), Fail> {
     let mut sheet = blank(&rt, 2)?;
     let of_group = load(7, 100, 0, PLAIN, 5);
-    sheet.enter(1, 'T', of_group)?;
-    sheet.enter(2, 'T', of_group)?;
+    sheet.enter(entry(1, 'T', of_group))?;
+    sheet.enter(entry(2, 'T', of_group))?;
     assert_eq!(rt; sheet.strike(0), Err(Refusal::RecordNumber));
     assert_eq!(rt; sheet.strike(3), Err(Refusal::NumberMissing));
-    assert_eq!(rt; sheet.enter(1, 'L', of_group), Err(Refusal::Group));
-    assert_eq!(rt; sheet.enter(1, 'T', of_group), Err(Refusal::NumberTaken));
-    assert_eq!(rt; sheet.alter(3, 'L', of_group), Err(Refusal::Group));
-    assert_eq!(rt; sheet.alter(3, 'T', of_group), Err(Refusal::NumberMissing));
-    assert_eq!(rt; sheet.enter(3, 'T', of_group), Err(Refusal::SheetFull));
+    assert_eq!(rt; sheet.enter(entry(1, 'L', of_group)), Err(Refusal::Group));
     assert_eq!(rt;
-        blank(&rt, 0)?.enter(3, 'T', of_group),
+        sheet.enter(entry(1, 'T', of_group)),
+        Err(Refusal::NumberTaken)
+    );
+    assert_eq!(rt; sheet.alter(entry(3, 'L', of_group)), Err(Refusal::Group));
+    assert_eq!(rt;
+        sheet.alter(entry(3, 'T', of_group)),
+        Err(Refusal::NumberMissing)
+    );
+    assert_eq!(rt;
+        sheet.enter(entry(3, 'T', of_group)),
+        Err(Refusal::SheetFull)
+    );
+    assert_eq!(rt;
+        blank(&rt, 0)?.enter(entry(3, 'T', of_group)),
         Err(Refusal::SheetFull)
     );
     Ok(())
@@ -99,11 +116,11 @@ fn changes_in_their_places(rt: HostRuntime) -> Result<(), Fail> {
     let mut sheet = blank(&rt, 3)?;
     let of_group = load(7, 100, 0, PLAIN, 5);
     for number in [11, 12, 13] {
-        sheet.enter(number, 'T', load(number % 10, 100, 0, PLAIN, 5))?;
+        sheet.enter(entry(number, 'T', load(number % 10, 100, 0, PLAIN, 5)))?;
     }
-    sheet.alter(12, 'L', load(2, 100, 0, PLAIN, 6))?;
+    sheet.alter(entry(12, 'L', load(2, 100, 0, PLAIN, 6)))?;
     sheet.strike(11)?;
-    sheet.enter(11, 'T', of_group)?;
+    sheet.enter(entry(11, 'T', of_group))?;
     let numbers = sheet.records();
     assert!(rt; numbers.len() == 3);
     assert!(rt; numbers[0].number == 12 && numbers[0].load.effect.force == 6);

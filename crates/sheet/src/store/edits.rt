@@ -5,9 +5,10 @@ ghost use Rattle.sheet.specs.Ledger.{Performs};
 ghost use Rattle.sheet.specs.declared.changes.Change.TheVariants.{Enter, Alter, Strike};
 
 use super::Sheet;
-use crate::checks::{checked, number_in, position};
+use crate::changes::Entry;
+use crate::checks::{checked, number_in, place_of, position};
 use effect::Effect;
-use loads::{Load, Record};
+use loads::Record;
 use refusals::Refusal;
 
 impl<E: Effect> Sheet<E> {
@@ -37,31 +38,29 @@ impl<E: Effect> Sheet<E> {
     }
 
     // Adds a record at the end.
-    pub fn enter(&mut self, number: u64, letter: char, load: Load<E>) -> Result<(), Refusal>
-        ensures ledger { Performs E.means (places_of self.old) (held self.old) (Enter number letter load) result (held self.new) }
+    pub fn enter(&mut self, entry: Entry<E>) -> Result<(), Refusal>
+        ensures ledger { Performs E.means (places_of self.old) (held self.old) (Enter entry) result (held self.new) }
         ensures places { places_of self.new ≡ places_of self.old }
     {
-        let kind = checked(self.records.as_slice(), None, number, letter, &load)?;
-        if position(self.records.as_slice(), number).is_some() {
+        let kind = checked(self.records.as_slice(), None, &entry)?;
+        if position(self.records.as_slice(), entry.number).is_some() {
             return Err(Refusal::NumberTaken);
         }
         if self.is_full() {
             return Err(Refusal::SheetFull);
         }
-        self.append(Record { number, kind, load });
+        self.append(entry.record(kind));
         Ok(())
     }
 
     // Replaces all of a record but its number and its place.
-    pub fn alter(&mut self, number: u64, letter: char, load: Load<E>) -> Result<(), Refusal>
-        ensures ledger { Performs E.means (places_of self.old) (held self.old) (Alter number letter load) result (held self.new) }
+    pub fn alter(&mut self, entry: Entry<E>) -> Result<(), Refusal>
+        ensures ledger { Performs E.means (places_of self.old) (held self.old) (Alter entry) result (held self.new) }
         ensures places { places_of self.new ≡ places_of self.old }
     {
-        let kind = checked(self.records.as_slice(), Some(number), number, letter, &load)?;
-        let Some(place) = position(self.records.as_slice(), number) else {
-            return Err(Refusal::NumberMissing);
-        };
-        self.put(place, Record { number, kind, load });
+        let kind = checked(self.records.as_slice(), Some(entry.number), &entry)?;
+        let place = place_of(self.records.as_slice(), entry.number)?;
+        self.put(place, entry.record(kind));
         Ok(())
     }
 
@@ -73,9 +72,7 @@ impl<E: Effect> Sheet<E> {
         if !number_in(number) {
             return Err(Refusal::RecordNumber);
         }
-        let Some(place) = position(self.records.as_slice(), number) else {
-            return Err(Refusal::NumberMissing);
-        };
+        let place = place_of(self.records.as_slice(), number)?;
         self.take_out(place);
         Ok(())
     }

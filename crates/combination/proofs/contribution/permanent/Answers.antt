@@ -5,4 +5,4 @@ use Rattle.combination.proofs.contribution.permanent.Goals as goal
 pub returns : goal.returns
 returns g c ruled =
     let o = g.E.Effect.means in
-    permanent_is o c.args.pick c.args.of.now _ _ c.chosen-factor.ensures c.weighted.ensures (in_range o _ ruled)
+    permanent_is o c.args.pick c.args.of.now _ _ c.factor.ensures c.weighted.ensures (in_range o _ ruled)

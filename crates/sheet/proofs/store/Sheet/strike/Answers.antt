@@ -9,12 +9,12 @@ returns g c =
     let b = held c.args.self.now in
     let s = c.as_slice.result.now in
     let same = c.as_slice.ensures.value in
-    let at = c.in-Some.ensures in
+    let at = c.in_ok-place.ensures in
     let number = c.number_in.ensures.0 c.if-not-number_in.false in
-    let out = struck n s b same c.in-Some.place at in
+    let out = struck n s b same c.in_ok-place.place at in
     record {
       ledger = (
-        strike_clear g.E.Effect.means (places_of c.args.self.now) n b number (there n s b same c.in-Some.place at),
+        strike_clear g.E.Effect.means (places_of c.args.self.now) n b number (there n s b same c.in_ok-place.place at),
         (out.0, out.1, out.2, out.3, out.4, c.take_out.ensures.records ∙ out.5),
       );
       places = c.take_out.ensures.places;

@@ -1,4 +1,0 @@
-use Rattle.combination.proofs.totals.comes_to.Goals as goal
-
-pub returns : goal.returns
-returns g c = c.sum_contributions.ensures (g.M.Norm.percentages c.args.norm.now) c.basic_table-table.ensures
