@@ -1,5 +1,5 @@
 -- The lines that show an answer: the question with the effect, and then the choice.
-use Rattle.std.specs.Prelude.{ℕ, Bool, cond, ◌&&◌, List, [], ◌∷◌, ◌++◌, codes, decimal, ◌==◌}
+use Rattle.std.specs.Prelude.{ℕ, Bool, cond, ◌&&◌, List, [], ◌∷◌, ◌++◌, decimal, ◌==◌}
 use Rattle.effect.specs.Notations.{Notation}
 use Rattle.loads.specs.Letters.{letter_of}
 use Rattle.loads.specs.declared.kinds.Kind.TheVariants.{Permanent, LongTerm, ShortTerm, Special}
@@ -11,15 +11,11 @@ use Rattle.norm.specs.declared.terms.Term.TheVariants.{Long, Short}
 use Rattle.combination.specs.Choices.{Line, lines, is_of_kind, is_lower, is_taken, role, taken}
 use Rattle.combination.specs.declared.answers.Answer.{Answer}
 use Rattle.combination.specs.declared.questions.Question.{Question}
-use Rattle.combination.specs.declared.questions.Question.TheVariants.{Basic, WithSpecial}
+use Rattle.combination.specs.Words.{question_word}
 use Rattle.lines.specs.Reading.{spaced}
 use Rattle.writing.specs.Writing.{signed_fixed8}
 use Rattle.answer_lines.specs.declared.sections.Section.{Section}
 use Rattle.answer_lines.specs.declared.sections.Section.TheVariants.{Factors, InRole, Taken}
-
-abbrev pub question_word : Question → List ℕ
-question_word Basic = codes "BASIC"
-question_word WithSpecial = codes "SPECIAL"
 
 -- P in sheet order, L by role, T by role, those of role 3 in sheet order, and S last, where nl long-term and nt short-term loads are taken
 abbrev pub sections : Percentages → ℕ → ℕ → List Section

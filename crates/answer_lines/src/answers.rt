@@ -1,15 +1,15 @@
-// An answer to each of the two questions.
+// An answer to a question.
 ghost use Rattle.std.specs.Prelude.{[], ◌∷◌, ◌++◌};
 ghost use Rattle.lines.specs.Reading.{spaced};
-ghost use Rattle.combination.specs.declared.questions.Question.TheVariants.{Basic, WithSpecial};
 ghost use Rattle.writing.specs.Writing.{Writes, signed_fixed8};
 ghost use Rattle.answer_lines.specs.Lines.{answer_text};
 
 use crate::choices::write_choice;
-use combination::{Answer, basic_table, special_table};
+use combination::{Answer, Choice, Question};
 use effect::Written;
 use loads::Record;
-use norm::{Norm, SpecialNorm};
+use norm::Norm;
+use words::Word;
 use writing::Writer;
 
 fn fixed_field(out: &mut Writer, z: i64)
@@ -37,30 +37,18 @@ fn write_head<E: Written>(out: &mut Writer, word: &[u8], effect: E)
     out.put(b'\n');
 }
 
-// An answer to the basic question.
-pub fn write_basic<E: Written, M: Norm>(
+// An answer to a question, with the percentages of the norm that it asks; the special question asks a norm as `InSpecial`.
+pub fn write_answer<E: Written, M: Norm>(
     out: &mut Writer,
+    question: Question,
     norm: &M,
     records: &[Record<E>],
     answer: &Answer<E>,
 )
-    ensures { Writes out.old (answer_text E.Written.writes (M.Norm.percentages norm.now) Basic records.now answer.now) out.new }
+    ensures { Writes out.old (answer_text E.Written.writes (M.Norm.percentages norm.now) question records.now answer.now) out.new }
 {
-    write_head(out, b"BASIC", answer.effect);
-    let table = basic_table(norm, records, &answer.picks);
-    write_choice(out, table, records, &answer.picks);
-}
-
-// An answer to the special question.
-pub fn write_special<E: Written, M: SpecialNorm>(
-    out: &mut Writer,
-    norm: &M,
-    records: &[Record<E>],
-    answer: &Answer<E>,
-)
-    ensures { Writes out.old (answer_text E.Written.writes (M.SpecialNorm.special norm.now) WithSpecial records.now answer.now) out.new }
-{
-    write_head(out, b"SPECIAL", answer.effect);
-    let table = special_table(norm, records, &answer.picks);
-    write_choice(out, table, records, &answer.picks);
+    let picks = &answer.picks;
+    let choice = Choice { records, picks };
+    write_head(out, question.word().as_bytes(), answer.effect);
+    write_choice(out, choice.table(norm), &choice);
 }

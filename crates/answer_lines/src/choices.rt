@@ -1,28 +1,28 @@
 // The lines of a choice.
 ghost use Rattle.norm.specs.Percentages.{Percentages};
-ghost use Rattle.combination.specs.Choices.{lines};
+ghost use Rattle.combination.specs.Choices.{lines_of};
 ghost use Rattle.combination.specs.Computing.{AskedFor};
 ghost use Rattle.writing.specs.Writing.{Writes};
 ghost use Rattle.answer_lines.specs.Lines.{choice_text, sections_text};
 
 use crate::sections::{Section, write_section};
-use combination::{Pick, Table};
-use loads::{Kind, Record};
+use combination::{Choice, Table};
+use loads::Kind;
 use norm::Role;
 use writing::Writer;
 
 // Sections, one after the other.
-fn write_sections<E>(out: &mut Writer, sections: &[Section], records: &[Record<E>], picks: &[Pick])
-    ensures { Writes out.old (sections_text sections.now (lines records.now picks.now)) out.new }
+fn write_sections<E>(out: &mut Writer, sections: &[Section], choice: &Choice<E>)
+    ensures { Writes out.old (sections_text sections.now (lines_of choice.now)) out.new }
 {
     for section in sections {
-        write_section(out, *section, records, picks);
+        write_section(out, *section, choice);
     }
 }
 
 // A choice, by the percentages that any norm has for the numbers that it takes.
-pub(crate) fn write_choice<E>(out: &mut Writer, table: Table, records: &[Record<E>], picks: &[Pick])
-    ensures { (norm : Percentages) → AskedFor norm (lines records.now picks.now) table → Writes out.old (choice_text norm (lines records.now picks.now)) out.new }
+pub(crate) fn write_choice<E>(out: &mut Writer, table: Table, choice: &Choice<E>)
+    ensures { (norm : Percentages) → AskedFor norm (lines_of choice.now) table → Writes out.old (choice_text norm (lines_of choice.now)) out.new }
 {
     let sections = [
         Section::Factors,
@@ -34,5 +34,5 @@ pub(crate) fn write_choice<E>(out: &mut Writer, table: Table, records: &[Record<
         Section::InRole(Kind::ShortTerm, Role::Other, table.short.other),
         Section::Taken,
     ];
-    write_sections(out, &sections, records, picks);
+    write_sections(out, &sections, choice);
 }

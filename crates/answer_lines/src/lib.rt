@@ -5,4 +5,4 @@ mod answers;
 mod choices;
 mod sections;
 
-pub use answers::{write_basic, write_special};
+pub use answers::write_answer;

@@ -1,13 +1,12 @@
 // The records of a choice that are shown together.
 ghost use Rattle.std.specs.Prelude.{◌≡◌, [], ◌∷◌, ◌++◌, if◌then◌else◌, decimal};
-ghost use Rattle.norm.specs.Roles.{role_number};
-ghost use Rattle.combination.specs.Choices.{is_lower, lines, role as role_of_pick};
+ghost use Rattle.combination.specs.Choices.{lines_of};
 ghost use Rattle.loads.specs.Letters.{letter_of};
 ghost use Rattle.writing.specs.Writing.{Writes};
 ghost use Rattle.lines.specs.Reading.{spaced};
 ghost use Rattle.answer_lines.specs.Lines.{details, line_text, section_text, shows as is_shown_line};
 
-use combination::Pick;
+use combination::{Choice, Pick};
 use loads::{Kind, Record};
 use norm::Role;
 use writing::Writer;
@@ -29,17 +28,10 @@ impl Section {
     {
         match self {
             Section::Factors => of.kind == Kind::Permanent,
-            Section::InRole(kind, role, _) => of.kind == kind && pick.role() == role.number(),
+            Section::InRole(kind, role, _) => of.kind == kind && pick.role() == Some(role),
             Section::Taken => of.kind == Kind::Special && pick.is_taken(),
         }
     }
-}
-
-// The factor of a permanent load that a pick chooses.
-fn chosen(pick: Pick, upper: u64, lower: u64) -> u64
-    ensures { result ≡ (if is_lower pick then lower else upper) }
-{
-    if pick.is_lower() { lower } else { upper }
 }
 
 // The number of a record, and the letter of its kind after one blank.
@@ -56,7 +48,7 @@ fn write_details<E>(out: &mut Writer, section: Section, of: &Record<E>, pick: Pi
     ensures { Writes out.old (spaced decimal (details section (of.now, pick)) []) out.new }
 {
     match section {
-        Section::Factors => out.field(chosen(pick, of.load.upper, of.load.lower)),
+        Section::Factors => out.field(pick.factor(&of.load)),
         Section::InRole(_, role, percent) => {
             out.field(role.number());
             out.field(percent);
@@ -84,15 +76,10 @@ fn write_if_shown<E>(out: &mut Writer, section: Section, of: &Record<E>, pick: P
 }
 
 // The records that a section shows, in their order.
-pub(crate) fn write_section<E>(
-    out: &mut Writer,
-    section: Section,
-    records: &[Record<E>],
-    picks: &[Pick],
-)
-    ensures { Writes out.old (section_text section (lines records.now picks.now)) out.new }
+pub(crate) fn write_section<E>(out: &mut Writer, section: Section, choice: &Choice<E>)
+    ensures { Writes out.old (section_text section (lines_of choice.now)) out.new }
 {
-    for i in 0..records.len().min(picks.len()) {
-        write_if_shown(out, section, &records[i], picks[i]);
+    for (of, pick) in choice.records.iter().zip(choice.picks) {
+        write_if_shown(out, section, of, *pick);
     }
 }

@@ -7,8 +7,8 @@ use Rattle.answer_lines.specs.Lines.{answer_text}
 use Rattle.history.specs.History.{NormAnswers, asked}
 use Rattle.history.specs.declared.calls.Call.{Call}
 use Rattle.history.specs.declared.calls.Call.TheVariants.{Change, Ask}
-use Rattle.history.specs.declared.outcomes.Outcome.{Outcome}
-use Rattle.history.specs.declared.outcomes.Outcome.TheVariants.{Done, Refused, Answered}
+use Rattle.history.specs.Outcomes.{Outcome}
+use Rattle.std.specs.Prelude.{Ok, Err, Some, None}
 
 abbrev pub done_text : List ℕ
 done_text = codes "DONE" ++ 10 ∷ []
@@ -18,7 +18,7 @@ refused_text n = codes "REFUSED " ++ (decimal n ++ 10 ∷ [])
 
 -- DONE, REFUSED with the number, or the answer to the question with its choice over the records. A change is never answered
 abbrev pub reply_text : {E : Type 0} → Notation E → NormAnswers → List (Record E) → Call E → Outcome E → List ℕ
-reply_text w norm records c Done = done_text
-reply_text w norm records c (Refused e) = refused_text (number_of e)
-reply_text w norm records (Change c) (Answered a) = done_text
-reply_text w norm records (Ask q) (Answered a) = answer_text w (asked norm q) q records a
+reply_text w norm records c (Ok None) = done_text
+reply_text w norm records c (Err e) = refused_text (number_of e)
+reply_text w norm records (Change c) (Ok (Some a)) = done_text
+reply_text w norm records (Ask q) (Ok (Some a)) = answer_text w (asked norm q) q records a

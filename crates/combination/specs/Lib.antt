@@ -7,4 +7,5 @@ pub mod Invariance
 pub mod Lists
 pub mod Loads
 pub mod Sound
+pub mod Words
 pub mod Worst

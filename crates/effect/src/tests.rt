@@ -1,5 +1,6 @@
 use crate::*;
 use std::cmp::Ordering;
+use words::Word;
 
 // The largest reach at which sums and multiples are owed.
 const LIMIT: i64 = 6_400_000_000_000_000_000;

@@ -16,8 +16,8 @@ use Rattle.combination.proofs.Invariance.{same_worst}
 use Rattle.history.specs.History.{NormAnswers, asked, Unanswerable, Step}
 use Rattle.history.specs.Law.{SameAnswer, Alike}
 use Rattle.history.specs.declared.calls.Call.TheVariants.{Ask}
-use Rattle.history.specs.declared.outcomes.Outcome.{Outcome}
-use Rattle.history.specs.declared.outcomes.Outcome.TheVariants.{Done, Refused, Answered}
+use Rattle.history.specs.Outcomes.{Outcome}
+use Rattle.std.specs.Prelude.{Ok, Err, Some, None}
 use Rattle.history.proofs.Histories.{good_sound, history_good}
 
 module _ {E : Type 0} (o : Operations E) where
@@ -42,13 +42,13 @@ module _ {E : Type 0} (o : Operations E) where
 
 module _ {E : Type 0} (o : Operations E) (laws : Laws o) (norm : NormAnswers) (q : Question) (ranged : Ranged (asked norm q)) where
   answers_alike : (p s : ℕ) (b d : List (Record E)) → Sound o b → Sound o d → SameDesignLoads o b d → (out out' : Outcome E) (b' d' : List (Record E)) → Step o norm p b (Ask q) out b' → Step o norm s d (Ask q) out' d' → SameAnswer out out'
-  answers_alike p s b d sb sd same Done out' b' d' h k = absurd h
-  answers_alike p s b d sb sd same (Refused e) Done b' d' h k = absurd k
-  answers_alike p s b d sb sd same (Refused e) (Refused f) b' d' h k = h.0 ∙ sym k.0
-  answers_alike p s b d sb sd same (Refused e) (Answered a) b' d' h k = absurd (k.0 (there o q b d same h.1))
-  answers_alike p s b d sb sd same (Answered a) Done b' d' h k = absurd k
-  answers_alike p s b d sb sd same (Answered a) (Refused f) b' d' h k = absurd (h.0 (back o q b d same k.1))
-  answers_alike p s b d sb sd same (Answered a) (Answered e) b' d' h k = (same_worst o laws (asked norm q) ranged q b d sb sd same).1 _ _ _ _ h.1 k.1
+  answers_alike p s b d sb sd same (Ok None) out' b' d' h k = absurd h
+  answers_alike p s b d sb sd same (Err e) (Ok None) b' d' h k = absurd k
+  answers_alike p s b d sb sd same (Err e) (Err f) b' d' h k = h.0 ∙ sym k.0
+  answers_alike p s b d sb sd same (Err e) (Ok (Some a)) b' d' h k = absurd (k.0 (there o q b d same h.1))
+  answers_alike p s b d sb sd same (Ok (Some a)) (Ok None) b' d' h k = absurd k
+  answers_alike p s b d sb sd same (Ok (Some a)) (Err f) b' d' h k = absurd (h.0 (back o q b d same k.1))
+  answers_alike p s b d sb sd same (Ok (Some a)) (Ok (Some e)) b' d' h k = (same_worst o laws (asked norm q) ranged q b d sb sd same).1 _ _ _ _ h.1 k.1
 
   pub alike_anywhere : (p : ℕ) (b : List (Record E)) → Sound o b → (out : Outcome E) (b' : List (Record E)) → Step o norm p b (Ask q) out b' → Alike o norm b out q
   alike_anywhere p b sound out b' step s cs outs d history same out' d' step' =

@@ -21,8 +21,8 @@ use Rattle.history.specs.History.{NormAnswers, Step, Run, History}
 use Rattle.history.specs.Law.{Determined}
 use Rattle.history.specs.declared.calls.Call.{Call}
 use Rattle.history.specs.declared.calls.Call.TheVariants.{Change as Changing, Ask}
-use Rattle.history.specs.declared.outcomes.Outcome.{Outcome}
-use Rattle.history.specs.declared.outcomes.Outcome.TheVariants.{Done, Refused, Answered}
+use Rattle.history.specs.Outcomes.{Outcome}
+use Rattle.std.specs.Prelude.{Ok, Err, Some, None}
 use Rattle.history.proofs.Ledgers.{Distinct, missing_stable, distinct_push, distinct_swap, distinct_drop, changed_once, missing_beside}
 use Rattle.history.proofs.Pairs.{each_two_push, each_two_swap, each_two_drop}
 
@@ -66,27 +66,27 @@ module _ {E : Type 0} (k : Kind) (n g : ℕ) where
 
 module _ {E : Type 0} (o : Operations E) where
   changed_good : (p : ℕ) (b : List (Record E)) (c : Change E) (b' : List (Record E)) → Accepted o p b c → Changed b c b' → Good o p b → Good o p b'
-  changed_good p b (Enter n l x) b' clear h w =
-      let new = record_of n h.0 x in
+  changed_good p b (Enter x) b' clear h w =
+      let new = record_of x h.0 in
       subst (Good o p) (sym h.2) (record {
         few = ⊎_elim (λ (lt : length b < p). omega (arith, length-append b (new ∷ []))) (λ le. absurd (clear SheetFull le)) (cases_lt (length b) p);
-        ruled = All-push (Ruled o) b new w.ruled (enter_ruled o p b n l x h.0 h.1 clear);
-        distinct = distinct_push b new (missing_stable n b (clear NumberTaken)) w.distinct;
-        one = each_two_push _ b new (before_it h.0 n x.group new refl refl b (enter_agrees o p b n l x h.0 h.1 clear)) w.one;
+        ruled = All-push (Ruled o) b new w.ruled (enter_ruled o p b x h.0 h.1 clear);
+        distinct = distinct_push b new (missing_stable x.number b (clear NumberTaken)) w.distinct;
+        one = each_two_push _ b new (before_it h.0 x.number x.load.group new refl refl b (enter_agrees o p b x h.0 h.1 clear)) w.one;
       })
-  changed_good p b (Alter n l x) b' clear h w =
-      let new = record_of n h.0 x in
+  changed_good p b (Alter x) b' clear h w =
+      let new = record_of x h.0 in
       let r = h.2 in
-      let apart = missing_beside r.0 r.1 r.2 n r.4 (subst Distinct r.3 w.distinct) in
-      let agree = subst (AllByRecursion (λ y. Other (Some n) y → Agrees h.0 x.group y)) r.3 (alter_agrees o p b n l x h.0 h.1 clear) in
+      let apart = missing_beside r.0 r.1 r.2 x.number r.4 (subst Distinct r.3 w.distinct) in
+      let agree = subst (AllByRecursion (λ y. Other (Some x.number) y → Agrees h.0 x.load.group y)) r.3 (alter_agrees o p b x h.0 h.1 clear) in
       record {
-        few = omega (arith, w.few, replaced_few b n (new ∷ []) b' r (omega arith));
-        ruled = replaced_all (Ruled o) b n (new ∷ []) b' r (alter_ruled o p b n l x h.0 h.1 clear, tt) w.ruled;
+        few = omega (arith, w.few, replaced_few b x.number (new ∷ []) b' r (omega arith));
+        ruled = replaced_all (Ruled o) b x.number (new ∷ []) b' r (alter_ruled o p b x h.0 h.1 clear, tt) w.ruled;
         distinct = subst Distinct (sym r.5) (distinct_swap r.0 r.1 new r.2 (sym r.4) (subst Distinct r.3 w.distinct));
         one = subst OneKind (sym r.5)
             (each_two_swap _ r.0 r.1 new r.2
-            (before_it h.0 n x.group new refl refl r.0 (others h.0 n x.group r.0 apart.0 (all_front _ r.0 r.1 r.2 agree)))
-            (after_it h.0 n x.group new refl refl r.2 (others h.0 n x.group r.2 apart.1 (all_back _ r.0 r.1 r.2 agree)))
+            (before_it h.0 x.number x.load.group new refl refl r.0 (others h.0 x.number x.load.group r.0 apart.0 (all_front _ r.0 r.1 r.2 agree)))
+            (after_it h.0 x.number x.load.group new refl refl r.2 (others h.0 x.number x.load.group r.2 apart.1 (all_back _ r.0 r.1 r.2 agree)))
             (subst OneKind r.3 w.one));
       }
   changed_good p b (Strike n) b' clear h w = record {
@@ -98,12 +98,12 @@ module _ {E : Type 0} (o : Operations E) where
 
 module _ {E : Type 0} (o : Operations E) (norm : NormAnswers) where
   pub step_good : (p : ℕ) (b : List (Record E)) (c : Call E) (out : Outcome E) (b' : List (Record E)) → Step o norm p b c out b' → Good o p b → Good o p b'
-  step_good p b (Changing c) Done b' h w = changed_good o p b c b' h.0 h.1 w
-  step_good p b (Changing c) (Refused e) b' h w = subst (Good o p) (sym h.1) w
-  step_good p b (Changing c) (Answered a) b' h w = absurd h
-  step_good p b (Ask q) Done b' h w = absurd h
-  step_good p b (Ask q) (Refused e) b' h w = subst (Good o p) (sym h.2) w
-  step_good p b (Ask q) (Answered a) b' h w = subst (Good o p) (sym h.2) w
+  step_good p b (Changing c) (Ok None) b' h w = changed_good o p b c b' h.0 h.1 w
+  step_good p b (Changing c) (Err e) b' h w = subst (Good o p) (sym h.1) w
+  step_good p b (Changing c) (Ok (Some a)) b' h w = absurd h
+  step_good p b (Ask q) (Ok None) b' h w = absurd h
+  step_good p b (Ask q) (Err e) b' h w = subst (Good o p) (sym h.2) w
+  step_good p b (Ask q) (Ok (Some a)) b' h w = subst (Good o p) (sym h.2) w
 
   run_good : (p : ℕ) (b : List (Record E)) (cs : List (Call E)) (outs : List (Outcome E)) (b' : List (Record E)) → Run o norm p b cs outs b' → Good o p b → Good o p b'
   run_good p b [] [] b' h w = subst (Good o p) h w
@@ -129,19 +129,19 @@ module _ {E : Type 0} (o : Operations E) (norm : NormAnswers) where
 
 module _ {E : Type 0} (o : Operations E) where
   step_once : (norm norm' : NormAnswers) (p : ℕ) (b : List (Record E)) (c : Call E) (out out' : Outcome E) (m d : List (Record E)) → Distinct b → Step o norm p b c out m → Step o norm' p b c out' d → m ≡ d
-  step_once norm norm' p b (Changing c) Done Done m d distinct h k = changed_once b c m d distinct h.1 k.1
-  step_once norm norm' p b (Changing c) Done (Refused f) m d distinct h k = absurd (h.0 f k.0.0)
-  step_once norm norm' p b (Changing c) (Refused e) Done m d distinct h k = absurd (k.0 e h.0.0)
-  step_once norm norm' p b (Changing c) (Refused e) (Refused f) m d distinct h k = h.1 ∙ sym k.1
-  step_once norm norm' p b (Changing c) (Answered a) out' m d distinct h k = absurd h
-  step_once norm norm' p b (Changing c) Done (Answered a) m d distinct h k = absurd k
-  step_once norm norm' p b (Changing c) (Refused e) (Answered a) m d distinct h k = absurd k
+  step_once norm norm' p b (Changing c) (Ok None) (Ok None) m d distinct h k = changed_once b c m d distinct h.1 k.1
+  step_once norm norm' p b (Changing c) (Ok None) (Err f) m d distinct h k = absurd (h.0 f k.0.0)
+  step_once norm norm' p b (Changing c) (Err e) (Ok None) m d distinct h k = absurd (k.0 e h.0.0)
+  step_once norm norm' p b (Changing c) (Err e) (Err f) m d distinct h k = h.1 ∙ sym k.1
+  step_once norm norm' p b (Changing c) (Ok (Some a)) out' m d distinct h k = absurd h
+  step_once norm norm' p b (Changing c) (Ok None) (Ok (Some a)) m d distinct h k = absurd k
+  step_once norm norm' p b (Changing c) (Err e) (Ok (Some a)) m d distinct h k = absurd k
   step_once norm norm' p b (Ask q) out out' m d distinct h k = asked_same norm q out m h ∙ sym (asked_same norm' q out' d k)
     where
       asked_same : (norm : NormAnswers) (q : _) (out : Outcome E) (m : List (Record E)) → Step o norm p b (Ask q) out m → m ≡ b
-      asked_same norm q Done m h = absurd h
-      asked_same norm q (Refused e) m h = h.2
-      asked_same norm q (Answered a) m h = h.2
+      asked_same norm q (Ok None) m h = absurd h
+      asked_same norm q (Err e) m h = h.2
+      asked_same norm q (Ok (Some a)) m h = h.2
 
   run_once : (norm norm' : NormAnswers) (p : ℕ) (b : List (Record E)) (cs : List (Call E)) (outs outs' : List (Outcome E)) (m d : List (Record E)) → Good o p b → Run o norm p b cs outs m → Run o norm' p b cs outs' d → m ≡ d
   run_once norm norm' p b [] [] [] m d good h k = sym h ∙ k

@@ -16,7 +16,7 @@ use Rattle.history.specs.Law.{Asking, BothAsked, Keeps, KeptFrom, Law, Performed
 use Rattle.history.specs.Steps.{Stepped}
 use Rattle.history.specs.declared.calls.Call.{Call}
 use Rattle.history.specs.declared.calls.Call.TheVariants.{Change as Changing, Ask}
-use Rattle.history.specs.declared.outcomes.Outcome.{Outcome}
+use Rattle.history.specs.Outcomes.{Outcome}
 use Rattle.history.proofs.Histories.{Good, good_sound, step_good, blank_good, history_good, history_more, history_determined}
 use Rattle.history.proofs.Alikeness.{alike_anywhere}
 

@@ -61,9 +61,9 @@ module _ {E : Type 0} where
       h.5 ∙ ap (λ f. f ++ (new ++ h.2)) one.0 ∙ ap (λ t. k.0 ++ (new ++ t)) one.1 ∙ sym k.5
 
   pub changed_once : (b : List (Record E)) (c : Change E) (m d : List (Record E)) → Distinct b → Changed b c m → Changed b c d → m ≡ d
-  changed_once b (Enter n l x) m d distinct h k = h.2 ∙ ap (λ j. b ++ record_of n j x ∷ []) (same_kind l h.0 k.0 h.1 k.1) ∙ sym k.2
-  changed_once b (Alter n l x) m d distinct h k =
-      replaced_once b n (record_of n k.0 x ∷ []) m d distinct (subst (λ j. Replaced b n (record_of n j x ∷ []) m) (same_kind l h.0 k.0 h.1 k.1) h.2) k.2
+  changed_once b (Enter x) m d distinct h k = h.2 ∙ ap (λ j. b ++ record_of x j ∷ []) (same_kind x.letter h.0 k.0 h.1 k.1) ∙ sym k.2
+  changed_once b (Alter x) m d distinct h k =
+      replaced_once b x.number (record_of x k.0 ∷ []) m d distinct (subst (λ j. Replaced b x.number (record_of x j ∷ []) m) (same_kind x.letter h.0 k.0 h.1 k.1) h.2) k.2
   changed_once b (Strike n) m d distinct h k = replaced_once b n [] m d distinct h k
 
   -- the others have other numbers

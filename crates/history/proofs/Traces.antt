@@ -1,5 +1,5 @@
 -- A trace of turns: it begins blank, grows by a turn, and is a history.
-use Rattle.std.proofs.Common.{◌≡◌, ℕ, ◌+◌, ◌*◌, ◌<◌, ◌≤◌, Bool, false, List, [], ◌∷◌, ◌++◌, map, length, get_or, take, drop, vec_capacity, sym, ap, ◌∙◌, subst, arith, length-append, take_all}
+use Rattle.std.proofs.Common.{◌≡◌, ℕ, ◌+◌, ◌*◌, ◌<◌, ◌≤◌, List, [], ◌∷◌, ◌++◌, map, length, get_or, take, drop, vec_capacity, sym, ap, ◌∙◌, subst, arith, length-append, take_all, Err, Result}
 use lib.Seq.{take-append-le, drop-append-le}
 use Rattle.std.proofs.lemmas.List.{drop_all, take_more}
 use Rattle.effect.specs.Laws.{Operations}
@@ -10,7 +10,7 @@ use Rattle.history.specs.Logs.{turns_of, pages_of, Grown, Begun, MadeRoom, Noted
 use Rattle.history.specs.declared.logs.Log.{Log}
 use Rattle.history.specs.declared.calls.Call.{Call}
 use Rattle.history.specs.declared.logs.Turn.{Turn}
-use Rattle.history.specs.declared.outcomes.Outcome.{Outcome}
+use Rattle.history.specs.Outcomes.{Outcome}
 use Rattle.history.proofs.Histories.{history_determined}
 
 abbrev turn : {E : Type 0} → Outcome E → ℕ → Turn E
@@ -62,7 +62,7 @@ module _ {E : Type 0} (o : Operations E) (norm : NormAnswers) (p : ℕ) (cs : Li
   }
 
   -- one call more, for which room was made
-  pub noted : (i : ℕ) (k m n : Log E) (r : Bool) (b b' d : List (Record E)) (c : Call E) (out : Outcome E)
+  pub noted : {X : Type 0} (i : ℕ) (k m n : Log E) (r : Result (Unit {0}) X) (b b' d : List (Record E)) (c : Call E) (out : Outcome E)
       → Sofar o norm p cs l i k b → MadeRoom k r m → Keeps o norm p b c out b' → d ≡ b' → length d ≤ 32 → Noted m out d n
       → i < length cs → c ≡ get_or cs i c → Sofar o norm p cs l (i + 1) n b'
   noted i k m n r b b' d c out sofar room step same few h lt read =
@@ -107,8 +107,8 @@ module _ {E : Type 0} (o : Operations E) (norm : NormAnswers) (p : ℕ) (cs : Li
   all_made i m b sofar within end = replayed i m b sofar within (λ _ _. omega arith)
 
   -- there is no room for one turn more
-  pub no_room : (i : ℕ) (k m : Log E) (r : Bool) (b : List (Record E)) → Sofar o norm p cs l i k b → i < length cs → MadeRoom k r m → r ≡ false → Replayed o norm p cs l' m b
-  no_room i k m r b sofar lt room none =
+  pub no_room : {X : Type 0} (i : ℕ) (k m : Log E) (e : X) (b : List (Record E)) → Sofar o norm p cs l i k b → i < length cs → MadeRoom k (Err e) m → Replayed o norm p cs l' m b
+  no_room i k m e b sofar lt room =
       let after : Sofar o norm p cs l i m b = record {
         blank = room.opened ∙ sofar.blank;
         count = ap length room.turns ∙ sofar.count;
@@ -118,7 +118,7 @@ module _ {E : Type 0} (o : Operations E) (norm : NormAnswers) (p : ℕ) (cs : Li
       } in
       replayed i m b after (omega arith)
       (λ turns pages.
-      absurd (room.short none (record {
+      absurd (room.short (record {
         turn = omega (arith, sofar.count, sofar.grown.turns, before.turns, k.turns.ok.0);
         page = omega (arith, sofar.few, sofar.grown.pages, before.pages, k.pages.ok.0);
       })))

@@ -9,7 +9,7 @@ use Rattle.history.specs.declared.calls.BasicCall.{BasicCall}
 use Rattle.history.specs.declared.calls.BasicCall.TheVariants.{Change as BasicChange, Basic as BasicAsk}
 use Rattle.history.specs.declared.calls.Call.{Call}
 use Rattle.history.specs.declared.calls.Call.TheVariants.{Change, Ask}
-use Rattle.history.specs.declared.outcomes.Outcome.{Outcome}
+use Rattle.history.specs.Outcomes.{Outcome}
 
 -- a call other than the special question, as a call
 abbrev pub call_of : {E : Type 0} → BasicCall E → Call E

@@ -10,8 +10,8 @@ use Rattle.combination.specs.declared.questions.Question.{Question}
 use Rattle.combination.specs.declared.questions.Question.TheVariants.{Basic, WithSpecial}
 use Rattle.history.specs.declared.calls.Call.{Call}
 use Rattle.history.specs.declared.calls.Call.TheVariants.{Change, Ask}
-use Rattle.history.specs.declared.outcomes.Outcome.{Outcome}
-use Rattle.history.specs.declared.outcomes.Outcome.TheVariants.{Done, Refused, Answered}
+use Rattle.history.specs.Outcomes.{Outcome}
+use Rattle.std.specs.Prelude.{Ok, Err, Some, None}
 
 -- the two answers of a norm, for basic and for special combinations
 pub record NormAnswers : Type 0 where
@@ -33,12 +33,12 @@ Unanswerable WithSpecial b = NoSpecial b
 module _ {E : Type 0} (o : Operations E) (norm : NormAnswers) where
   -- one call, where p places hold the records b. A change is refused exactly with the number that is due, else done; a question is refused with 10 exactly where it is unanswerable, else answered by the worst
   abbrev pub Step : ℕ → List (Record E) → Call E → Outcome E → List (Record E) → Type 0
-  Step p b (Change c) Done b' = Accepted o p b c × Changed b c b'
-  Step p b (Change c) (Refused e) b' = Refuses o p b c e × (b' ≡ b)
-  Step p b (Change c) (Answered a) b' = ⊥
-  Step p b (Ask q) Done b' = ⊥
-  Step p b (Ask q) (Refused e) b' = (e ≡ NoSpecialLoad) × Unanswerable q b × (b' ≡ b)
-  Step p b (Ask q) (Answered a) b' = (Unanswerable q b → ⊥) × Answers o (asked norm q) q b a × (b' ≡ b)
+  Step p b (Change c) (Ok None) b' = Accepted o p b c × Changed b c b'
+  Step p b (Change c) (Err e) b' = Refuses o p b c e × (b' ≡ b)
+  Step p b (Change c) (Ok (Some a)) b' = ⊥
+  Step p b (Ask q) (Ok None) b' = ⊥
+  Step p b (Ask q) (Err e) b' = (e ≡ NoSpecialLoad) × Unanswerable q b × (b' ≡ b)
+  Step p b (Ask q) (Ok (Some a)) b' = (Unanswerable q b → ⊥) × Answers o (asked norm q) q b a × (b' ≡ b)
 
   -- calls with their outcomes, one by one, from the records b to the records b'
   abbrev pub Run : ℕ → List (Record E) → List (Call E) → List (Outcome E) → List (Record E) → Type 0

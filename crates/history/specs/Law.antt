@@ -11,19 +11,19 @@ use Rattle.history.specs.declared.calls.Call.{Call}
 use Rattle.history.specs.declared.calls.Call.TheVariants.{Change, Ask}
 use Rattle.history.specs.declared.logs.Log.{Log}
 use Rattle.history.specs.declared.logs.Turn.{Turn}
-use Rattle.history.specs.declared.outcomes.Outcome.{Outcome}
-use Rattle.history.specs.declared.outcomes.Outcome.TheVariants.{Done, Refused, Answered}
+use Rattle.history.specs.Outcomes.{Outcome}
+use Rattle.std.specs.Prelude.{Ok, Err, Some, None}
 
 module _ {E : Type 0} where
   -- the same refusal, or answers with the same effect
   abbrev pub SameAnswer : Outcome E → Outcome E → Type 0
-  SameAnswer Done out = ⊥
-  SameAnswer (Refused e) Done = ⊥
-  SameAnswer (Refused e) (Refused f) = e ≡ f
-  SameAnswer (Refused e) (Answered a) = ⊥
-  SameAnswer (Answered a) Done = ⊥
-  SameAnswer (Answered a) (Refused f) = ⊥
-  SameAnswer (Answered a) (Answered d) = a.effect ≡ d.effect
+  SameAnswer (Ok None) out = ⊥
+  SameAnswer (Err e) (Ok None) = ⊥
+  SameAnswer (Err e) (Err f) = e ≡ f
+  SameAnswer (Err e) (Ok (Some a)) = ⊥
+  SameAnswer (Ok (Some a)) (Ok None) = ⊥
+  SameAnswer (Ok (Some a)) (Err f) = ⊥
+  SameAnswer (Ok (Some a)) (Ok (Some d)) = a.effect ≡ d.effect
 
   -- P of the question that a call asks
   abbrev pub Asking : Call E → (Question → Type 0) → Type 0
@@ -62,9 +62,9 @@ module _ {E : Type 0} (o : Operations E) (norm : NormAnswers) where
   -- what holds of a call on any sheet, whether it has a history or not: a change is due, a question is refused exactly where it is unanswerable and changes nothing
   abbrev pub Plain : ℕ → List (Record E) → Call E → Outcome E → List (Record E) → Type 0
   Plain p b (Change c) out b' = Step o norm p b (Change c) out b'
-  Plain p b (Ask q) Done b' = ⊥
-  Plain p b (Ask q) (Refused e) b' = (e ≡ NoSpecialLoad) × Unanswerable q b × (b' ≡ b)
-  Plain p b (Ask q) (Answered a) b' = (Unanswerable q b → ⊥) × (b' ≡ b)
+  Plain p b (Ask q) (Ok None) b' = ⊥
+  Plain p b (Ask q) (Err e) b' = (e ≡ NoSpecialLoad) × Unanswerable q b × (b' ≡ b)
+  Plain p b (Ask q) (Ok (Some a)) b' = (Unanswerable q b → ⊥) × (b' ≡ b)
 
   -- a sheet of p places held the records b, and the call c came to an outcome and left b'
   pub record Performed (p : ℕ) (b : List (Record E)) (c : Call E) (out : Outcome E) (b' : List (Record E)) : Type 0 where

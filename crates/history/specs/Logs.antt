@@ -1,9 +1,9 @@
 -- What is done with a log.
-use Rattle.std.specs.Prelude.{◌≡◌, ◌+◌, ◌≤◌, Bool, true, false, List, [], ◌∷◌, ◌++◌, length, vec_items, vec_len, vec_capacity}
+use Rattle.std.specs.Prelude.{◌≡◌, ◌+◌, ◌≤◌, List, [], ◌∷◌, ◌++◌, length, vec_items, vec_len, vec_capacity, Result, IfOk, IfErr}
 use Rattle.loads.specs.declared.records.Record.{Record}
 use Rattle.history.specs.declared.logs.Log.{Log}
 use Rattle.history.specs.declared.logs.Turn.{Turn}
-use Rattle.history.specs.declared.outcomes.Outcome.{Outcome}
+use Rattle.history.specs.Outcomes.{Outcome}
 
 module _ {E : Type 0} where
   abbrev pub turns_of : Log E → List (Turn E)
@@ -30,13 +30,13 @@ module _ {E : Type 0} where
     pub page : vec_len l.pages + 32 ≤ vec_capacity l.pages
 
   -- room was made, or there was none
-  pub record MadeRoom (l : Log E) (r : Bool) (m : Log E) : Type 0 where
+  pub record MadeRoom {X : Type 0} (l : Log E) (r : Result (Unit {0}) X) (m : Log E) : Type 0 where
     pub opened : m.opened ≡ l.opened
     pub turns : turns_of m ≡ turns_of l
     pub pages : pages_of m ≡ pages_of l
     pub grown : Grown l m
-    pub room : r ≡ true → Room m
-    pub short : r ≡ false → Room l → ⊥
+    pub room : IfOk r (λ u. Room m)
+    pub short : IfErr r (λ e. Room l → ⊥)
 
   -- m is l with a turn more: its outcome, and the records b
   pub record Noted (l : Log E) (out : Outcome E) (b : List (Record E)) (m : Log E) : Type 0 where

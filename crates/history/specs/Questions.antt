@@ -10,7 +10,7 @@ use Rattle.combination.specs.declared.answers.Answer.{Answer}
 use Rattle.combination.specs.declared.questions.Question.TheVariants.{Basic, WithSpecial}
 use Rattle.history.specs.History.{NormAnswers, both, History}
 use Rattle.history.specs.declared.calls.Call.{Call}
-use Rattle.history.specs.declared.outcomes.Outcome.{Outcome}
+use Rattle.history.specs.Outcomes.{Outcome}
 
 module _ {E : Type 0} (o : Operations E) where
   -- after any history the answer is the worst, whatever stands in the place of the norm's second answer

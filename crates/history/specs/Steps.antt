@@ -7,7 +7,7 @@ use Rattle.questions.specs.Promises.{OneKind}
 use Rattle.history.specs.History.{NormAnswers, Step}
 use Rattle.history.specs.Law.{Plain}
 use Rattle.history.specs.declared.calls.Call.{Call}
-use Rattle.history.specs.declared.outcomes.Outcome.{Outcome}
+use Rattle.history.specs.Outcomes.{Outcome}
 
 -- what holds of it on any sheet, and on one whose records keep the rules
 pub record Stepped {E : Type 0} (o : Operations E) (norm : NormAnswers) (p : ℕ) (b : List (Record E)) (c : Call E) (out : Outcome E) (b' : List (Record E)) : Type 0 where

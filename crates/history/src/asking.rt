@@ -1,4 +1,5 @@
 // The two questions, asked of a sheet. They change nothing.
+ghost use Rattle.std.specs.Prelude.{Ok};
 ghost use Rattle.norm.specs.Percentages.{Percentages};
 ghost use Rattle.combination.specs.declared.questions.Question.TheVariants.{Basic, WithSpecial};
 ghost use Rattle.sheet.specs.Held.{held, places_of};
@@ -7,9 +8,7 @@ ghost use Rattle.history.specs.Law.{BothAsked};
 ghost use Rattle.history.specs.Outcomes.{answer_of};
 ghost use Rattle.history.specs.Steps.{Stepped};
 ghost use Rattle.history.specs.declared.calls.Call.TheVariants.{Ask};
-ghost use Rattle.history.specs.declared.outcomes.Outcome.TheVariants.{Answered};
 
-use crate::outcomes::{Outcome, answer_of};
 use combination::{Answer, Question};
 use effect::Effect;
 use norm::{Norm, SpecialNorm};
@@ -18,7 +17,7 @@ use sheet::Sheet;
 
 // The worst basic combination, whatever the norm's second answer, if it has one.
 pub(crate) fn basic<E: Effect, M: Norm>(norm: &M, sheet: &Sheet<E>) -> Answer<E>
-    ensures { (special : Percentages) → Stepped E.Effect.means (both (M.Norm.percentages norm.now) special) (places_of sheet.now) (held sheet.now) (Ask Basic) (Answered result) (held sheet.now) }
+    ensures { (special : Percentages) → Stepped E.Effect.means (both (M.Norm.percentages norm.now) special) (places_of sheet.now) (held sheet.now) (Ask Basic) (answer_of (Ok result)) (held sheet.now) }
 {
     questions::basic(norm, sheet.records())
 }
@@ -30,10 +29,7 @@ pub(crate) fn special<E: Effect, M: SpecialNorm>(
 ) -> Result<Answer<E>, Refusal>
     ensures { Stepped E.Effect.means (both (M.Norm.percentages norm.now) (M.SpecialNorm.special norm.now)) (places_of sheet.now) (held sheet.now) (Ask WithSpecial) (answer_of result) (held sheet.now) }
 {
-    match questions::special(norm, sheet.records()) {
-        Some(answer) => Ok(answer),
-        None => Err(Refusal::NoSpecialLoad),
-    }
+    questions::special(norm, sheet.records()).ok_or(Refusal::NoSpecialLoad)
 }
 
 // One question.
@@ -41,12 +37,12 @@ pub(crate) fn ask<E: Effect, M: SpecialNorm>(
     norm: &M,
     sheet: &Sheet<E>,
     question: Question,
-) -> Outcome<E>
-    ensures { Stepped E.Effect.means (both (M.Norm.percentages norm.now) (M.SpecialNorm.special norm.now)) (places_of sheet.now) (held sheet.now) (Ask question) result (held sheet.now) }
+) -> Result<Answer<E>, Refusal>
+    ensures { Stepped E.Effect.means (both (M.Norm.percentages norm.now) (M.SpecialNorm.special norm.now)) (places_of sheet.now) (held sheet.now) (Ask question) (answer_of result) (held sheet.now) }
 {
     match question {
-        Question::Basic => Outcome::Answered(basic(norm, sheet)),
-        Question::WithSpecial => answer_of(special(norm, sheet)),
+        Question::Basic => Ok(basic(norm, sheet)),
+        Question::WithSpecial => special(norm, sheet),
     }
 }
 
@@ -56,8 +52,8 @@ pub fn compare<E: Effect, M: SpecialNorm>(
     first: &Sheet<E>,
     second: &Sheet<E>,
     question: Question,
-) -> (Outcome<E>, Outcome<E>)
-    ensures { BothAsked E.Effect.means (both (M.Norm.percentages norm.now) (M.SpecialNorm.special norm.now)) (places_of first.now) (held first.now) (places_of second.now) (held second.now) question result.0 result.1 }
+) -> (Result<Answer<E>, Refusal>, Result<Answer<E>, Refusal>)
+    ensures { BothAsked E.Effect.means (both (M.Norm.percentages norm.now) (M.SpecialNorm.special norm.now)) (places_of first.now) (held first.now) (places_of second.now) (held second.now) question (answer_of result.0) (answer_of result.1) }
 {
     (ask(norm, first, question), ask(norm, second, question))
 }

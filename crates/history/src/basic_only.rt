@@ -9,7 +9,7 @@ ghost use Rattle.history.specs.Steps.{Stepped};
 
 use crate::asking::basic;
 use crate::calls::BasicCall;
-use crate::outcomes::{Outcome, outcome_of};
+use crate::outcomes::Outcome;
 use crate::runs::change;
 use effect::Effect;
 use norm::Norm;
@@ -20,8 +20,8 @@ fn step_basic<E: Effect, M: Norm>(norm: &M, sheet: &mut Sheet<E>, call: BasicCal
     ensures places { places_of sheet.new ≡ places_of sheet.old }
 {
     match call {
-        BasicCall::Change(call) => outcome_of(change(sheet, call)),
-        BasicCall::Basic => Outcome::Answered(basic(norm, sheet)),
+        BasicCall::Change(call) => change(sheet, call).map(|()| None),
+        BasicCall::Basic => Ok(Some(basic(norm, sheet))),
     }
 }
 

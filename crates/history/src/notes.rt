@@ -6,6 +6,7 @@ use crate::logs::{Log, Turn};
 use crate::outcomes::Outcome;
 use effect::Effect;
 use loads::Record;
+use std::alloc::AllocError;
 
 impl<E: Effect> Log<E> {
     // Begins with a sheet that holds these records. The memory stays.
@@ -17,11 +18,12 @@ impl<E: Effect> Log<E> {
         self.pages.clear();
     }
 
-    // Makes room for one turn more, with at most 32 records; false for want of memory.
-    pub(crate) fn make_room(&mut self) -> bool
+    // Makes room for one turn more, with at most 32 records.
+    pub(crate) fn make_room(&mut self) -> Result<(), AllocError>
         ensures { MadeRoom self.old result self.new }
     {
-        self.turns.reserve(1).is_ok() && self.pages.reserve(32).is_ok()
+        self.turns.reserve(1)?;
+        self.pages.reserve(32)
     }
 
     // Notes a turn, for which there is room.

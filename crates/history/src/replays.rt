@@ -27,9 +27,9 @@ pub fn replay<E: Effect, M: SpecialNorm>(
     let mut sheet = Sheet::open(memory, places);
     log.begin(sheet.records());
     for call in calls {
-        if !log.make_room() {
+        let Ok(()) = log.make_room() else {
             return sheet;
-        }
+        };
         let outcome = perform(norm, &mut sheet, *call);
         log.note(outcome, sheet.records());
     }

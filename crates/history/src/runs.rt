@@ -9,7 +9,7 @@ ghost use Rattle.history.specs.Steps.{Stepped};
 
 use crate::asking::ask;
 use crate::calls::Call;
-use crate::outcomes::{Outcome, outcome_of};
+use crate::outcomes::Outcome;
 use effect::Effect;
 use norm::{Norm, SpecialNorm};
 use refusals::Refusal;
@@ -21,8 +21,8 @@ pub(crate) fn change<E: Effect>(sheet: &mut Sheet<E>, call: Change<E>) -> Result
     ensures places { places_of sheet.new ≡ places_of sheet.old }
 {
     match call {
-        Change::Enter(number, letter, load) => sheet.enter(number, letter, load),
-        Change::Alter(number, letter, load) => sheet.alter(number, letter, load),
+        Change::Enter(entry) => sheet.enter(entry),
+        Change::Alter(entry) => sheet.alter(entry),
         Change::Strike(number) => sheet.strike(number),
     }
 }
@@ -32,8 +32,8 @@ fn step<E: Effect, M: SpecialNorm>(norm: &M, sheet: &mut Sheet<E>, call: Call<E>
     ensures places { places_of sheet.new ≡ places_of sheet.old }
 {
     match call {
-        Call::Change(call) => outcome_of(change(sheet, call)),
-        Call::Ask(question) => ask(norm, sheet, question),
+        Call::Change(call) => change(sheet, call).map(|()| None),
+        Call::Ask(question) => ask(norm, sheet, question).map(Some),
     }
 }
 

@@ -1,6 +1,7 @@
 // Every row of both tables, the edges of the ranges, and the words.
 use super::*;
 use std::test::Fail;
+use words::Word;
 
 // A question, by term, role and the numbers of loads taken, and the basic and the special percentage due.
 type Row = (Term, u64, u64, u64, u64, u64);

@@ -1,8 +1,8 @@
 -- What is said of an outcome.
 use Rattle.std.specs.Prelude.{ℕ, List, ◌++◌, codes, decimal}
 use Rattle.refusals.specs.Numbers.{number_of}
-use Rattle.history.specs.declared.outcomes.Outcome.{Outcome}
-use Rattle.history.specs.declared.outcomes.Outcome.TheVariants.{Done as CallDone, Refused as CallRefused, Answered}
+use Rattle.history.specs.Outcomes.{Outcome}
+use Rattle.std.specs.Prelude.{Ok, Err, Some, None}
 use Rattle.replay.specs.declared.said.Said.{Said}
 use Rattle.replay.specs.declared.said.Said.TheVariants.{Done, Refused}
 

@@ -12,8 +12,8 @@ use Rattle.history.specs.History.{NormAnswers, both, Run}
 use Rattle.history.specs.Questions.{SpecialAsked}
 use Rattle.history.specs.declared.calls.Call.{Call}
 use Rattle.history.specs.declared.calls.Call.TheVariants.{Change}
-use Rattle.history.specs.declared.outcomes.Outcome.{Outcome}
-use Rattle.history.specs.declared.outcomes.Outcome.TheVariants.{Done}
+use Rattle.history.specs.Outcomes.{Outcome}
+use Rattle.std.specs.Prelude.{Ok, Err, Some, None}
 use Rattle.load_lines.specs.declared.names.Names.{Names}
 use Rattle.report.specs.Reports.{Reported, report_text}
 use Rattle.sheet_lines.specs.declared.fault.TextFault.{TextFault}
@@ -35,7 +35,7 @@ module _ {E : Type 0} (o : Operations E) (w : Notation E) (norm : NormAnswers) (
   bodies_led (Bodies.surplus more) = tt
   bodies_led (Bodies.malformed none) = tt
   bodies_led (Bodies.refused x after e legible is refuses) = tt
-  bodies_led {b} {kinds = kind ∷ kinds} {r = r} (Bodies.entered x after b' legible is accepted changed next) = led_more b b' (Change (entry_of kind x)) Done r (b', (accepted, changed), refl) (bodies_led next)
+  bodies_led {b} {kinds = kind ∷ kinds} {r = r} (Bodies.entered x after b' legible is accepted changed next) = led_more b b' (Change (entry_of kind x)) (Ok None) r (b', (accepted, changed), refl) (bodies_led next)
 
   sheet_led : {k : ℕ} {text : List ℕ} {r : Result (List (Record E)) TextFault} → SheetText o w p k text r → Led [] r
   sheet_led (SheetText.no_counts none) = tt

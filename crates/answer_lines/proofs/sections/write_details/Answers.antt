@@ -7,7 +7,7 @@ use Rattle.answer_lines.proofs.sections.write_details.Goals as goal
 
 pub returns-in-Factors : goal.returns-in-Factors
 returns-in-Factors g c =
-    let factor = ap decimal c.chosen.ensures ∙ sym (append-nil _) in
+    let factor = ap decimal c.factor.ensures ∙ sym (append-nil _) in
     so (ap (λ l. 32 ∷ l) factor ∙ ap (λ s. spaced decimal (details s (c.args.of.now, c.args.pick)) []) (sym c.in-Factors.is)) c.field.ensures
 
 pub returns-in-InRole : goal.returns-in-InRole

@@ -1,23 +1,28 @@
-use Rattle.std.proofs.Common.{◌+◌, ◌<◌, min, ◌∷◌, length, get_or, drop, sym, ap, ◌∙◌, arith}
+use Rattle.std.proofs.Common.{◌≡◌, ◌+◌, ◌<◌, min, ◌∷◌, length, drop, sym, ap, ◌∙◌, ap₂, arith}
+use Rattle.std.proofs.lemmas.Slice.Zip.{zip_turn, zip_end}
 use Rattle.combination.specs.Choices.{lines}
-use Rattle.combination.specs.declared.picks.Pick.TheVariants.{Upper}
-use Rattle.combination.proofs.Places.{lines_at, lines_none}
+use Rattle.combination.proofs.Places.{length_more, lines_at, lines_none}
 use Rattle.writing.proofs.Onward.{onward_more, onward_all}
 use Rattle.answer_lines.specs.Lines.{section_text}
 use Rattle.answer_lines.proofs.sections.write_section.Goals as goal
 
-pub loop-i-init : goal.loop-i-init
-loop-i-init g c = λ z w. w
+pub loop-of-init : goal.loop-of-init
+loop-of-init g c = λ z w. w
 
-pub loop-i-preserved : goal.loop-i-preserved
-loop-i-preserved g c =
-    let within : c.loop-i.i < min (length c.args.records.now) (length c.args.picks.now) = omega arith in
-    let rs = c.args.records.now in
-    let ps = c.args.picks.now in
-    let i = c.loop-i.i in
-    let here = lines_at rs ps i c.index-records-i.result Upper within ∙ ap (λ y. (y, get_or ps i Upper) ∷ lines (drop (i + 1) rs) (drop (i + 1) ps)) (sym c.index-records-i.is) in
-    onward_more c.loop-i.invariant (ap (section_text c.args.section) here) c.write_if_shown.ensures
+pub loop-of-preserved : goal.loop-of-preserved
+loop-of-preserved g c =
+    let rs = c.args.choice.now.records.now in
+    let ps = c.args.choice.now.picks.now in
+    let t = zip_turn rs ps c.loop-of.yielded c.into_iter-of-iterator.result c.loop-of.of-iterator c.next.new.self c.next.result (cc) (cc) c.loop-of.yielded_by (c.in-Some.of, c.in-Some.pick) c.in-Some.is c.next.ensures.steps in
+    let i = length c.loop-of.yielded in
+    let within : i < min (length rs) (length ps) = omega (arith, t.0, t.1) in
+    let here : lines (drop i rs) (drop i ps) ≡ (c.in-Some.of.now, c.in-Some.pick.now) ∷ lines (drop (i + 1) rs) (drop (i + 1) ps) =
+    lines_at rs ps i c.in-Some.of.now c.in-Some.pick.now within ∙ ap₂ (λ r p. (r, p) ∷ lines (drop (i + 1) rs) (drop (i + 1) ps)) (sym (t.2 c.in-Some.of.now)) (sym (t.3 c.in-Some.pick.now)) in
+    rw (length_more c.loop-of.yielded (c.in-Some.of, c.in-Some.pick)) (onward_more c.loop-of.invariant (ap (section_text c.args.section) here) c.write_if_shown.ensures)
 
 pub returns : goal.returns
 returns g c =
-    onward_all c.loop-i.invariant (ap (section_text c.args.section) (lines_none c.args.records.now c.args.picks.now c.loop-i.i (omega arith)))
+    let rs = c.args.choice.now.records.now in
+    let ps = c.args.choice.now.picks.now in
+    let t = zip_end rs ps c.loop-of.yielded c.into_iter-of-iterator.result c.loop-of.of-iterator c.next.new.self c.next.result (cc) (cc) c.loop-of.yielded_by c.in-None.is c.next.ensures.steps in
+    onward_all c.loop-of.invariant (ap (section_text c.args.section) (lines_none rs ps (length c.loop-of.yielded) (omega arith)))

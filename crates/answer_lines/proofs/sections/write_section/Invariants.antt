@@ -1,8 +1,10 @@
-use Rattle.std.proofs.Common.{drop}
-use Rattle.combination.specs.Choices.{lines}
+use Rattle.std.proofs.Common.{length, drop}
+use Rattle.combination.specs.Choices.{lines, lines_of}
 use Rattle.writing.proofs.Onward.{Onward}
 use Rattle.answer_lines.specs.Lines.{section_text}
 use Rattle.answer_lines.proofs.sections.write_section.Given as goal
 
-abbrev pub invariant-loop-i : goal.invariant-loop-i
-invariant-loop-i g l = Onward l.initial.out l.out (section_text l.section (lines (drop l.i l.records) (drop l.i l.picks))) (section_text l.section (lines l.records l.picks))
+abbrev pub invariant-loop-of : goal.invariant-loop-of
+invariant-loop-of g l =
+    let i = length l.yielded in
+    Onward l.initial.out l.out (section_text l.section (lines (drop i l.choice.records.now) (drop i l.choice.picks.now))) (section_text l.section (lines_of l.choice))

@@ -4,7 +4,7 @@ use Rattle.sheet.specs.Held.{held, places_of}
 use Rattle.history.specs.History.{both}
 use Rattle.history.specs.Steps.{Stepped}
 use Rattle.history.specs.declared.calls.Call.TheVariants.{Ask}
-use Rattle.history.specs.declared.outcomes.Outcome.TheVariants.{Answered}
+use Rattle.std.specs.Prelude.{Ok, Some}
 use Rattle.history.proofs.asking.ask.Goals as goal
 
 pub returns-in-Basic : goal.returns-in-Basic
@@ -13,4 +13,4 @@ returns-in-Basic g c =
     let norm = both (g.M.Norm.percentages c.args.norm.now) special in
     let p = places_of c.args.sheet.now in
     let b = held c.args.sheet.now in
-    subst (λ (q : Question). Stepped g.E.Effect.means norm p b (Ask q) (Answered c.basic.result) b) (sym c.in-Basic.is) (c.basic.ensures special)
+    subst (λ (q : Question). Stepped g.E.Effect.means norm p b (Ask q) (Ok (Some c.basic.result)) b) (sym c.in-Basic.is) (c.basic.ensures special)

@@ -1,18 +1,18 @@
-use Rattle.std.proofs.Common.{◌≡◌, ◌+◌, ◌≤◌, map, length, take, sym, ap, ◌∙◌, subst, arith}
+use Rattle.std.proofs.Common.{◌≡◌, ◌+◌, ◌≤◌, map, length, take, sym, ap, ◌∙◌, subst, arith, rules}
 use Rattle.sheet.specs.Held.{held, places_of}
 use Rattle.history.specs.History.{both}
 use Rattle.history.specs.Logs.{turns_of}
 use Rattle.history.proofs.Traces.{Sofar, noted, sofar_history, all_made, no_room}
 use Rattle.history.proofs.replays.replay.Goals as goal
 
-pub returns-then-not-make_room : goal.returns-then-not-make_room
-returns-then-not-make_room g c =
+pub returns-in_default : goal.returns-in_default
+returns-in_default g c =
     let p = places_of c.loop-call.sheet in
     let norm = both (g.M.Norm.percentages c.args.norm.now) (g.M.SpecialNorm.special c.args.norm.now) in
     record {
       law = no_room g.E.Effect.means norm p c.args.calls.now c.args.log.now c.begin.new.self c.begin.ensures.grown c.loop-call.sheet.room.2
-          c.loop-call.call-index c.loop-call.log c.make_room.new.self c.make_room.result (held c.loop-call.sheet)
-          c.loop-call.invariant.1 c.loop-call-test.true c.make_room.ensures c.if-not-make_room.true;
+          c.loop-call.call-index c.loop-call.log c.make_room.new.self c.in_default.field-0 (held c.loop-call.sheet)
+          c.loop-call.invariant.1 c.loop-call-test.true c.in_default.ensures;
       places = c.loop-call.invariant.0 ∙ c.open-sheet.ensures.places;
     }
 
@@ -20,7 +20,7 @@ pub note-requires : goal.note-requires
 note-requires g c =
     let s = c.perform-outcome.new.sheet in
     record {
-      room = c.make_room.ensures.room c.if-not-make_room.false;
+      room = search rules;
       few = omega (arith, ap length c.records-in-loop-call.ensures, s.room, s.records.ok.0);
     }
 
