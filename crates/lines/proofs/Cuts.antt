@@ -1,6 +1,9 @@
 -- Fields, tokens and line ends as parts of a text.
-use Rattle.std.proofs.Common.{◌≡◌, ℕ, suc, ◌+◌, ◌-◌, ◌<◌, ◌≤◌, Bool, true, false, cond, ◌||◌, eqb, List, [], ◌∷◌, ◌++◌, length, get_or, take, drop, MatchBool, sym, refl, ap, ◌∙◌, arith, length-drop, length-take, eq-eqb, ne_eqb, eqb-true}
-use Rattle.std.proofs.lemmas.List.{at_drop_more, at_drop_all, take_rest}
+use Rattle.std.proofs.Common.{not, ltb-false, Option, Some, None, ltb, ◌≡◌, ℕ, suc, ◌+◌, ◌<◌, ◌≤◌, Bool, true, false, cond, ◌||◌, eqb, List, [], ◌∷◌, ◌++◌, length, get_or, take, drop, MatchBool, refl, ap, ◌∙◌, arith, length-drop, length-take, eq-eqb, ne_eqb, eqb-true}
+use Rattle.std.specs.List.{position_or_len}
+use Rattle.std.specs.Option.{unwrap_or}
+use Rattle.std.proofs.lemmas.List.Sums.{prefix_len-le-length}
+use Rattle.std.proofs.lemmas.List.Recursion.{is_position_or_len}
 use Rattle.lines.specs.Lines.{newlines, separates, field, begins_blank, gap, lexeme}
 
 pub empty_when : (s : List ℕ) → MatchBool (eqb (length s) 0) (s ≡ []) (0 < length s)
@@ -22,16 +25,21 @@ field_none b bs e = ap (λ t. cond t [] (b ∷ field bs)) e
 field_more : (b : ℕ) (bs : List ℕ) → separates b ≡ false → field (b ∷ bs) ≡ b ∷ field bs
 field_more b bs e = ap (λ t. cond t [] (b ∷ field bs)) e
 
--- one step of the scan, and its two ends
-pub scan_more : (s : List ℕ) (n : ℕ) → n < length s → separates (get_or s n 0) ≡ false → length (field (drop n s)) ≡ 1 + length (field (drop (n + 1) s))
-scan_more s n here e =
-    at_drop_more (λ l. length (field l)) s n 0 here ∙ ap length (field_more (get_or s n 0) (drop (n + 1) s) e) ∙ omega arith
+-- a field ends before the first separator
+pub field_position : (s : List ℕ) → length (field s) ≡ position_or_len separates s
+field_position s = is_position_or_len (λ l. length (field l)) separates refl (λ b bs. step (separates b) b bs) s
+  where
+    step : (t : Bool) (b : ℕ) (bs : List ℕ) → length (cond t [] (b ∷ field bs)) ≡ cond t 0 (1 + length (field bs))
+    step true b bs = refl
+    step false b bs = omega arith
 
-pub scan_stops : (s : List ℕ) (n : ℕ) → n < length s → separates (get_or s n 0) ≡ true → length (field (drop n s)) ≡ 0
-scan_stops s n here e = at_drop_more (λ l. length (field l)) s n 0 here ∙ ap length (field_none (get_or s n 0) (drop (n + 1) s) e)
-
-pub scan_ends : (s : List ℕ) (n : ℕ) → length s ≤ n → length (field (drop n s)) ≡ 0
-scan_ends s n past = at_drop_all (λ l. length (field l)) s n past
+-- what `position` found, or the whole length
+pub position_or_all : (p : ℕ → Bool) (s : List ℕ) (r : Option ℕ) → r ≡ cond (ltb (position_or_len p s) (length s)) (Some (position_or_len p s)) None → unwrap_or r (length s) ≡ position_or_len p s
+position_or_all p s r e = ap (λ o. unwrap_or o (length s)) e ∙ go (ltb (position_or_len p s) (length s)) refl
+  where
+    go : (t : Bool) → ltb (position_or_len p s) (length s) ≡ t → unwrap_or (cond t (Some (position_or_len p s)) None) (length s) ≡ position_or_len p s
+    go true h = refl
+    go false h = omega (arith, prefix_len-le-length (λ x. not (p x)) s, ltb-false (position_or_len p s) (length s) h)
 
 take_field : (s : List ℕ) → take (length (field s)) s ≡ field s
 take_field [] = refl
@@ -124,7 +132,3 @@ newlines_lexeme (b ∷ bs) some = go (eqb b 10) (eqb b 32)
     go true u = refl
     go false true = newlines_field bs
     go false false = newlines_field (b ∷ bs)
-
-pub lexeme_after_blank : (s : List ℕ) → (length s ≡ 0 → ⊥) → get_or s 0 0 ≡ 32 → length (field (take (length s - 1) (drop 1 s))) ≡ length (lexeme s)
-lexeme_after_blank [] some e = absurd (some refl)
-lexeme_after_blank (b ∷ bs) some e = ap (λ l. length (field l)) (take_rest (b ∷ bs) 1) ∙ sym (λ i. length (lexeme (e i ∷ bs)))

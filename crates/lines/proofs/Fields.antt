@@ -6,7 +6,7 @@ use Rattle.std.specs.Str.Parse.{AllDigits}
 use Rattle.std.proofs.lemmas.Str.Parse.{digit_from_value}
 use Rattle.lines.specs.Lines.{newlines, separates, field}
 use Rattle.lines.specs.Numeral.{Short}
-use Rattle.lines.specs.Reading.{Ends}
+use Rattle.lines.specs.Reading.{Ends, FieldText}
 use Rattle.lines.proofs.Cuts.{no_separator}
 use Rattle.lines.proofs.Numbers.{short_text}
 
@@ -72,3 +72,11 @@ solid_digits (b ∷ x) h =
 
 pub solid_decimal : (n : ℕ) → Short n → Solid (decimal n)
 solid_decimal n short = solid_digits (decimal n) (short_text (decimal n) n short refl).3
+
+-- each valid value is written as one field that is not empty, and no two alike
+pub record OwnFields {A : Type 0} (valid : A → Type 0) (written : A → List ℕ) : Type 0 where
+  pub text : (a : A) → valid a → FieldText (written a)
+  pub same : (a b : A) → valid a → valid b → written a ≡ written b → a ≡ b
+
+pub solid_own : {A : Type 0} {valid : A → Type 0} {written : A → List ℕ} → OwnFields valid written → (a : A) → valid a → Solid (written a)
+solid_own {A} {valid} {written} own a ok = solid_field (written a) (own.text a ok).1

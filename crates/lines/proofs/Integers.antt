@@ -6,11 +6,9 @@ use Rattle.std.specs.Fmt.{signed_decimal}
 use Rattle.std.proofs.lemmas.Int.{ints}
 use Rattle.std.proofs.lemmas.Slice.{first_rest}
 use Rattle.std.proofs.lemmas.Fmt.{decimal_injective, signed_decimal_injective}
-use Rattle.lines.specs.Lexing.{number, text_sort}
-use Rattle.lines.specs.Numeral.{Short, ShortZ, Spelt}
-use Rattle.lines.proofs.Fields.{Solid, solid_decimal}
+use Rattle.lines.specs.Numeral.{Legible, Short, ShortZ, Spelt, numeral}
+use Rattle.lines.proofs.Fields.{OwnFields, Solid, solid_decimal, whole_field}
 use Rattle.lines.proofs.Numbers.{short_text}
-use Rattle.lines.proofs.Readings.{Tokenly, decimal_token}
 
 -- what follows a minus
 abbrev pub tail : List ℕ → List ℕ
@@ -58,9 +56,9 @@ small (negsuc n) h = omega arith
 pub same_signed : (y z : ℤ) → ShortZ y → ShortZ z → signed_decimal y ≡ signed_decimal z → y ≡ z
 same_signed y z p q = signed_decimal_injective y z (small y p) (small z q)
 
-sorted_signed : (z : ℤ) → ShortZ z → text_sort (signed_decimal z) ≡ number
-sorted_signed (pos n) short = decimal_token.sorted n short
-sorted_signed (negsuc n) short = refl
+pub signed_token : OwnFields ShortZ signed_decimal
+signed_token = record { text = λ z short. (some_signed z short, whole_field (signed_decimal z) (solid_signed z short)); same = same_signed }
 
-pub signed_token : Tokenly number ShortZ signed_decimal
-signed_token = record { of_field = tt; solid = solid_signed; some = some_signed; same = same_signed; sorted = sorted_signed }
+-- the same of any values that are numbers
+pub numeral_token : {A : Type 0} (value : A → ℤ) → ((a b : A) → value a ≡ value b → a ≡ b) → OwnFields (Legible value) (numeral value)
+numeral_token value apart = record { text = λ a ok. signed_token.text (value a) ok; same = λ a b p q e. apart a b (signed_token.same (value a) (value b) p q e) }

@@ -12,3 +12,4 @@ pub mod Sequences
 pub mod Spellings
 pub mod Lasts
 pub mod SpacedRows
+pub mod FirstRows

@@ -1,33 +1,15 @@
 -- Texts of digits and the numbers that they write.
-use Rattle.std.proofs.Common.{◌≡◌, ℕ, zero, suc, ◌+◌, ◌-◌, ◌*◌, ◌^◌, ◌<◌, ◌≤◌, List, [], ◌∷◌, length, get_or, take, Some, None, decimal, Option, sym, refl, ap, ◌∙◌, subst, arith}
-use Rattle.std.specs.Str.Parse.{AllDigits, digits_value}
-use Rattle.std.specs.Char.{digit_value}
-use Rattle.std.proofs.lemmas.Int.Digits.{digits_value_more, digits_more}
-use Rattle.std.proofs.lemmas.Str.{digit_value_digit}
-use Rattle.std.proofs.lemmas.List.{length-take-le}
-use Rattle.std.proofs.lemmas.Str.Parse.{IsNumeralModel, numerals_by_value, tells_digits, digit_at, digits_value_short}
-use Rattle.std.proofs.lemmas.Fmt.{decimal_digit, decimal-digits_value, decimal_nonempty, length-decimal-le, first_decimal, digits_decimal}
-use Rattle.lines.specs.Numeral.{FewBytes, IsDigit, IsValue, LeadingZero, Short, Spelt}
+use Rattle.std.proofs.Common.{eq-eqb, ne_eqb, eqb, true, false, ◌||◌, Result, Ok, Err, ◌≢◌, IsUtf8, ◌≡◌, ℕ, zero, suc, ◌<◌, ◌≤◌, List, [], ◌∷◌, length, get_or, None, decimal, sym, refl, ap, ◌∙◌, subst, arith}
+use borrow.Author.Tests.{clash}
+use Rattle.std.specs.Str.Parse.{AllDigits, ParsesUnsigned, digits_value}
+use Rattle.std.specs.Result.{result_ok}
+use Rattle.std.proofs.lemmas.Str.{IsUtf8-from_ascii}
+use Rattle.std.proofs.lemmas.Str.Parse.{IsNumeralModel, digit_from_value, numerals_by_value, parse_plain, tells_digits, digits_value_short}
+use Rattle.std.proofs.lemmas.Fmt.{IsAscii-from_digits, decimal_digit, decimal-digits_value, decimal_nonempty, length-decimal-le, first_decimal, digits_decimal}
+use Rattle.lines.specs.Numeral.{Short, Spelt, starts_loosely}
 
 own : IsNumeralModel (AllDigits 10) (digits_value 10)
 own = numerals_by_value (AllDigits 10) tells_digits
-
-digit_is : (c : ℕ) → 48 ≤ c → c ≤ 57 → digit_value c ≡ c - 48
-digit_is c low high = omega (arith, digit_value_digit c (low, high))
-
--- fewer than ten digits
-pub below : (text : List ℕ) (i n : ℕ) → length text ≤ 10 → i < length text → AllDigits 10 (take i text) → n ≡ digits_value 10 (take i text) → n < 10 ^ 9
-below text i n long here ds e =
-    let short : length (take i text) ≤ 9 = omega (arith, length-take-le i text (omega arith)) in
-    omega (arith, digits_value_short own (take i text) 9 ds short)
-
-pub digit_more : (text : List ℕ) (i n : ℕ) → i < length text → AllDigits 10 (take i text) → n ≡ digits_value 10 (take i text) → IsDigit (get_or text i 0) → AllDigits 10 (take (i + 1) text) × (n * 10 + (get_or text i 0 - 48) ≡ digits_value 10 (take (i + 1) text))
-digit_more text i n here ds e digit =
-    let d = digit_is (get_or text i 0) digit.low digit.high in
-    (digits_more 10 text i here ds (omega arith), (λ j. e j * 10 + sym d j) ∙ sym (digits_value_more 10 text i here))
-
-pub no_digit : (text : List ℕ) (i : ℕ) → i < length text → (IsDigit (get_or text i 0) → ⊥) → AllDigits 10 text → ⊥
-no_digit text i here other ds = let d = digit_at text i ds here in other (record { low = d.0; high = d.1 })
 
 -- the text of a number of at most ten digits
 pub short_text : (text : List ℕ) (n : ℕ) → Short n → text ≡ decimal n → (0 < length text) × (length text ≤ 10) × (1 < length text → 48 < get_or text 0 0) × AllDigits 10 text
@@ -42,20 +24,47 @@ short_text text n short e = (
     lead zero short more = absurd (omega (arith, ap length (decimal_digit 0 (omega arith))))
     lead (suc n) short more = first_decimal (suc n) (omega arith) (omega arith)
 
-pub short_few : (text : List ℕ) (n : ℕ) → Short n → text ≡ decimal n → FewBytes text
-short_few text n short e = let fits = short_text text n short e in record { some = fits.0; few = fits.1 }
+loose_plus : (text : List ℕ) → starts_loosely text ≡ false → get_or text 0 0 ≢ 43
+loose_plus [] e = λ h. omega arith
+loose_plus (b ∷ []) e = λ h. clash (sym e ∙ eq-eqb b 43 h)
+loose_plus (b ∷ (c ∷ bs)) e = λ h. clash (sym e ∙ (λ i. eq-eqb b 43 h i || eqb b 48))
 
-pub short_lead : (text : List ℕ) (n : ℕ) → Short n → text ≡ decimal n → LeadingZero text → ⊥
-short_lead text n short e lead = omega (arith, (short_text text n short e).2 lead.more, lead.zero)
+loose_zero : (text : List ℕ) → starts_loosely text ≡ false → 1 < length text → get_or text 0 0 ≢ 48
+loose_zero [] e more = λ h. omega arith
+loose_zero (b ∷ []) e more = λ h. omega arith
+loose_zero (b ∷ (c ∷ bs)) e more = λ h. clash (sym e ∙ (λ i. ne_eqb b 43 (λ k. omega arith) i || eq-eqb b 48 h i))
+
+loose_none : (b : ℕ) (bs : List ℕ) → 48 ≤ b → (0 < length bs → 48 < b) → starts_loosely (b ∷ bs) ≡ false
+loose_none b [] low lead = ne_eqb b 43 (λ k. omega arith)
+loose_none b (c ∷ bs) low lead = (λ i. ne_eqb b 43 (λ k. omega arith) i || ne_eqb b 48 (λ k. omega (arith, lead (omega arith))) i)
+
+-- a text that starts so writes no number
+pub loose_text : (text : List ℕ) → starts_loosely text ≡ true → Spelt Short decimal text None
+loose_text [] e = absurd (clash e)
+loose_text (b ∷ bs) e = λ n short same.
+    let own = short_text (b ∷ bs) n short same in
+    let d = digit_from_value b own.3.0 in
+    clash (sym (loose_none b bs d.0 (λ more. own.2 (omega arith))) ∙ e)
+
+pub long_text : (text : List ℕ) → 10 < length text → Spelt Short decimal text None
+long_text text long = λ n short same. omega (arith, (short_text text n short same).1)
 
 one_byte : (text : List ℕ) → 0 < length text → (1 < length text → ⊥) → length text ≡ 1
 one_byte [] some one = absurd (omega arith)
 one_byte (b ∷ []) some one = refl
 one_byte (b ∷ (c ∷ text)) some one = absurd (one (omega arith))
 
-pub is_number : (text : List ℕ) (r : Option ℕ) → FewBytes text → (LeadingZero text → ⊥) → IsValue text r → Spelt Short decimal text r
-is_number text (Some n) few lead h =
-    let small = digits_value_short own text 10 h.0 few.few in
-    let alone : get_or text 0 0 ≡ 48 → length text ≡ 1 = λ zero. one_byte text few.some (λ more. lead (record { more = more; zero = zero })) in
-    (omega (arith, h.1), sym (ap decimal h.1 ∙ decimal-digits_value own text h.0 few.some alone (omega arith)))
-is_number text None few lead h = λ n short e. h (short_text text n short e).3
+-- what `parse` answers of a text of at most ten bytes that does not start so
+pub is_number : {E : Type 0} (text : List ℕ) (r : Result ℕ E) → starts_loosely text ≡ false → length text ≤ 10 → ParsesUnsigned 64 10 text r → Spelt Short decimal text (result_ok r)
+is_number {E} text (Ok n) tight few h =
+    let p = parse_plain own {E = E} 64 text (Ok n) h (loose_plus text tight) in
+    let small = digits_value_short own text 10 p.0.0 few in
+    (omega (arith, p.1), sym (ap decimal p.1 ∙ decimal-digits_value own text p.0.0 p.0.1 (λ zero. one_byte text p.0.1 (λ more. loose_zero text tight more zero)) p.0.2))
+is_number {E} text (Err e) tight few h = λ n short same.
+    let p = parse_plain own {E = E} 64 text (Err e) h (loose_plus text tight) in
+    let ds = (short_text text n short same).3 in
+    p (ds, (short_text text n short same).0, omega (arith, digits_value_short own text 10 ds few))
+
+-- a text that is not UTF-8 writes no number
+pub no_utf8 : (text : List ℕ) → (IsUtf8 text → ⊥) → Spelt Short decimal text None
+no_utf8 text bad = λ n short same. bad (IsUtf8-from_ascii text (IsAscii-from_digits text (short_text text n short same).3))

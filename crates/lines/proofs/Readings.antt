@@ -1,17 +1,15 @@
 -- From the text of a token to the value that it writes.
-use Rattle.std.proofs.Common.{◌≡◌, ℕ, ◌<◌, ◌≤◌, Bool, true, false, cond, not, ◌&&◌, ◌||◌, eqb, List, [], ◌∷◌, ◌++◌, length, Some, None, decimal, Option, sym, refl, ap, ◌∙◌, subst, arith, length-append, ne_eqb, eqb-true, le-leb}
+use Rattle.std.proofs.Common.{◌≡◌, ℕ, ◌<◌, Bool, true, false, cond, not, ◌||◌, eqb, List, [], ◌∷◌, ◌++◌, length, Some, None, decimal, sym, refl, ap, ◌∙◌, subst, arith, length-append, ne_eqb, eqb-true}
 use mathlib.Core.Bool.{beq}
 use borrow.Author.Tests.{clash}
-use Rattle.std.specs.Str.Parse.{AllDigits}
-use Rattle.std.proofs.lemmas.Str.Parse.{digit_from_value}
 use Rattle.std.proofs.lemmas.Fmt.{decimal_injective}
 use Rattle.lines.specs.Lines.{field, begins_blank, gap, lexeme}
-use Rattle.lines.specs.Lexing.{rest, SameText, Sort, word, number, line_end, text_sort, Other, Taken, TakenField, NoField}
-use Rattle.lines.specs.Numeral.{Short, Spelt}
+use Rattle.lines.specs.Lexing.{rest, SameText, Sort, word, number, line_end, text_sort, TakenField, NoField}
+use Rattle.lines.specs.Numeral.{Short}
 use Rattle.lines.specs.Reading.{Ends, FieldText, blank_if, itself, led, Reads}
 use Rattle.lines.specs.declared.token.Tokens.{Tokens}
 use Rattle.lines.proofs.Numbers.{short_text}
-use Rattle.lines.proofs.Fields.{Solid, field_solid, field_ends, field_field, one_way, solid_decimal, solid_field}
+use Rattle.lines.proofs.Fields.{OwnFields, Solid, field_solid, field_ends, field_field, one_way, solid_decimal, solid_field, whole_field}
 
 -- a test whether two flags differ, as the checker reads it
 pub flags_differ : (a b : Bool) → not (beq a b) ≡ true → a ≡ b → ⊥
@@ -32,29 +30,10 @@ IsField word = Unit {0}
 IsField number = Unit {0}
 IsField line_end = ⊥
 
--- what makes the text of each valid value a field of its own, of sort k
-pub record Tokenly {A : Type 0} (k : Sort) (valid : A → Type 0) (written : A → List ℕ) : Type 0 where
-  pub of_field : IsField k
-  pub solid : (a : A) → valid a → Solid (written a)
-  pub some : (a : A) → valid a → 0 < length (written a)
-  pub same : (a b : A) → valid a → valid b → written a ≡ written b → a ≡ b
-  pub sorted : (a : A) → valid a → text_sort (written a) ≡ k
-
-digit_sort : (b : ℕ) (bs : List ℕ) → 48 ≤ b → b ≤ 57 → text_sort (b ∷ bs) ≡ number
-digit_sort b bs low high = λ i.
-    cond (ne_eqb b 10 (λ e. omega arith) i) line_end (cond ((le-leb 48 b low i && le-leb b 57 high i) || eqb b 45) number word)
-
-digits_sort : (x : List ℕ) → AllDigits 10 x → 0 < length x → text_sort x ≡ number
-digits_sort [] d some = absurd (omega arith)
-digits_sort (b ∷ x) d some = let c = digit_from_value b d.0 in digit_sort b x c.0 c.1
-
-pub decimal_token : Tokenly number Short decimal
+pub decimal_token : OwnFields Short decimal
 decimal_token = record {
-  of_field = tt;
-  solid = solid_decimal;
-  some = λ n short. (short_text (decimal n) n short refl).0;
+  text = λ n short. ((short_text (decimal n) n short refl).0, whole_field (decimal n) (solid_decimal n short));
   same = λ m n p q. decimal_injective m n (omega arith) (omega arith);
-  sorted = λ n short. let d = short_text (decimal n) n short refl in digits_sort (decimal n) d.3 d.0;
 }
 
 -- the first token of a text that begins with a field, after a blank or not
@@ -102,32 +81,6 @@ lexeme_field false k (c ∷ s) x u f e sorted is cut = go (eqb c 10) (is ∙ (λ
     go : (q : Bool) → x ≡ cond q (10 ∷ []) (field (c ∷ s)) → x ≡ field (x ++ u)
     go true h = absurd (subst IsField (sym (sym (ap text_sort h) ∙ sorted)) f)
     go false h = h ∙ ap field cut
-
-module _ {A : Type 0} {k : Sort} {valid : A → Type 0} {written : A → List ℕ} (tokenly : Tokenly k valid written) (b : Bool) (s u : Tokens) where
-  -- a field of sort k was read, and r is what it writes
-  pub reads : (x : List ℕ) (r : Option A) → begins_blank (rest s) ≡ b → Taken k s x u → Spelt valid written x r → Reads valid (led b written) Ends s r u
-  reads x (Some a) lead taken h =
-      let cut = gap_led b (rest s) x (rest u) lead taken.split in
-      let is = lexeme_field b k (rest s) x (rest u) tokenly.of_field lead taken.sorted taken.is cut in
-      (h.0, cut ∙ ap (λ l. blank_if b (l ++ rest u)) h.1, field_ends (x ++ rest u) (rest u) (ap (λ l. l ++ rest u) is), taken.text)
-  reads x None lead taken h =
-      let cut = gap_led b (rest s) x (rest u) lead taken.split in
-      let is = lexeme_field b k (rest s) x (rest u) tokenly.of_field lead taken.sorted taken.is cut in
-      ((λ a t ok ends e. h a ok (is ∙ ap field (led_cancel b x (rest u) (written a) t (sym cut ∙ e)) ∙ field_solid (written a) t (tokenly.solid a ok) ends)), taken.text)
-
-  -- none was
-  pub reads_none : Other k s u → Reads valid (led b written) Ends s None u
-  reads_none other = (
-    (λ a t ok ends e.
-        let is = ap lexeme e ∙ lexeme_led b (written a) t (tokenly.solid a ok) (tokenly.some a ok) ends in
-        let long = led_some b (written a) t (tokenly.some a ok) in
-        other.0 (subst (λ l. 0 < length l) (sym e) long) (ap text_sort is ∙ tokenly.sorted a ok)),
-    other.1,
-  )
-
-  -- a blank stands at the cursor where none is asked for, or none where one is
-  pub reads_apart : (begins_blank (rest s) ≡ b → ⊥) → SameText s u → Reads valid (led b written) Ends s None u
-  reads_apart apart text = ((λ a t ok ends e. apart (ap begins_blank e ∙ starts_led b (written a) t (tokenly.solid a ok) (tokenly.some a ok))), text)
 
 -- a field after one blank or right here, from the other side of an equation
 pub led_one_way : (b : Bool) (x y t u : List ℕ) → Solid x → Solid y → Ends t → Ends u → blank_if b (x ++ t) ≡ blank_if b (y ++ u) → (x ≡ y) × (t ≡ u)

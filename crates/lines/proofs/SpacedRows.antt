@@ -4,27 +4,27 @@ use Rattle.std.proofs.Common.{◌≡◌, ℕ, ◌+◌, ◌<◌, true, List, [], 
 use Rattle.std.proofs.ByRecursion.{All-push}
 use Rattle.std.proofs.lemmas.List.{take_more_set, take_all, length-take-le}
 use Rattle.std.specs.List.{AllByRecursion}
-use Rattle.lines.specs.Lexing.{Sort, SameText, rest}
+use Rattle.lines.specs.Lexing.{SameText, rest}
 use Rattle.lines.specs.Reading.{Ends, EndsAfter, Row, Reads, led, spaced}
 use Rattle.lines.specs.declared.token.Tokens.{Tokens}
+use Rattle.lines.proofs.Fields.{OwnFields}
 use Rattle.lines.proofs.LineCount.{newlines_spaced}
-use Rattle.lines.proofs.Readings.{Tokenly}
 use Rattle.lines.proofs.Rows.{no_row, same_row, spaced_push}
 use Rattle.lines.proofs.Sequences.{Form}
 
 -- two rows in one text, where nothing need end an empty one
-module _ {A : Type 0} {k : Sort} {valid : A → Type 0} {written : A → List ℕ} (tokenly : Tokenly k valid written) where
+module _ {A : Type 0} {valid : A → Type 0} {written : A → List ℕ} (own : OwnFields valid written) where
   same_spaced : (n : ℕ) (xs ms : List A) (r t : List ℕ) → Row valid n xs → Row valid n ms → EndsAfter n r → EndsAfter n t → spaced written xs r ≡ spaced written ms t → (xs ≡ ms) × (r ≡ t)
   same_spaced n [] [] r t vx vm er et e = (refl, e)
   same_spaced n [] (m ∷ ms) r t vx vm er et e = absurd (omega (arith, vx.0, vm.0))
   same_spaced n (x ∷ xs) ms r t vx vm er et e =
       let some : 0 < n = omega (arith, vx.0) in
-      same_row tokenly (x ∷ xs) ms r t vx.1 vm.1 (vx.0 ∙ sym vm.0) (λ h. er some) (et some) e
+      same_row own (x ∷ xs) ms r t vx.1 vm.1 (vx.0 ∙ sym vm.0) (λ h. er some) (et some) e
 
   pub row_form : (n : ℕ) → Form 0 (Row valid n) (spaced written) (EndsAfter n)
   row_form n = record {
     splits = λ xs ms r t vx vm er et e. same_spaced n xs ms r t vx vm er et e;
-    lines = λ xs t ok. newlines_spaced tokenly xs t ok.1 ∙ omega arith;
+    lines = λ xs t ok. newlines_spaced own xs t ok.1 ∙ omega arith;
   }
 
 -- i of n values are read into out, from s to u
@@ -51,11 +51,11 @@ module _ {A : Type 0} {valid : A → Type 0} {written : A → List ℕ} {n i : �
       }
 
   -- no value follows, or all are read
-  pub spaced_short : {k : Sort} → Tokenly k valid written → (v : Tokens) → i < n → Reads valid (led true written) Ends u None v → Reads (Row valid n) (spaced written) (EndsAfter n) s None v
-  spaced_short tokenly v more none = (
+  pub spaced_short : OwnFields valid written → (v : Tokens) → i < n → Reads valid (led true written) Ends u None v → Reads (Row valid n) (spaced written) (EndsAfter n) s None v
+  spaced_short own v more none = (
     (λ ms t row ends e.
         let long = length-take-le i out (omega (arith, h.size)) in
-        no_row tokenly (take i out) ms (rest u) t h.row row.1 (omega (arith, row.0)) (λ some. h.stops (omega arith)) (ends (omega arith)) (sym h.cut ∙ e)
+        no_row own (take i out) ms (rest u) t h.row row.1 (omega (arith, row.0)) (λ some. h.stops (omega arith)) (ends (omega arith)) (sym h.cut ∙ e)
         (λ a w ok ends' cut. none.0 a w ok ends' cut)),
     none.1 ∙ h.text,
   )

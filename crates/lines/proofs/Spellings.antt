@@ -1,14 +1,14 @@
 -- Values that are each written as one field.
 -- Assumes nothing.
 use Rattle.std.proofs.Common.{◌≡◌, ℕ, Bool, true, false, List, ◌++◌, Some, None, Option, sym, refl, ap, ◌∙◌, subst, arith}
-use Rattle.lines.specs.Lexing.{Sort, rest}
+use Rattle.lines.specs.Lexing.{rest}
 use Rattle.lines.specs.Lines.{newlines}
 use Rattle.lines.specs.Numeral.{Spelt}
 use Rattle.lines.specs.Reading.{Ends, FieldText, Reads, blank_if, itself, led}
 use Rattle.lines.specs.declared.token.Tokens.{Tokens}
 use Rattle.lines.proofs.Cuts.{newlines_append}
-use Rattle.lines.proofs.Fields.{Solid, newlines_solid, solid_field, whole_field}
-use Rattle.lines.proofs.Readings.{Tokenly, led_one_way}
+use Rattle.lines.proofs.Fields.{OwnFields, Solid, newlines_solid, solid_field}
+use Rattle.lines.proofs.Readings.{led_one_way}
 use Rattle.lines.proofs.Sequences.{Form}
 
 -- a valid value is what a table knows and what is written as a field; no two are written alike
@@ -50,11 +50,6 @@ module _ {A : Type 0} {known valid : A → Type 0} {written : A → List ℕ} (q
     lines = λ x t ok. omega (arith, newlines_blank b (written x ++ t), newlines_append (written x) t, newlines_solid (written x) (solid x ok));
   }
 
--- values whose texts are tokens of one sort
-pub token_spelling : {A : Type 0} {k : Sort} {valid : A → Type 0} {written : A → List ℕ} → Tokenly k valid written → Spelling valid valid written
-token_spelling {A} {k} {valid} {written} q = record {
-  knows = λ a ok. ok;
-  text = λ a ok. (q.some a ok, whole_field (written a) (q.solid a ok));
-  valid_from = λ a ok text. ok;
-  same = q.same;
-}
+-- values that are fields of their own
+pub token_spelling : {A : Type 0} {valid : A → Type 0} {written : A → List ℕ} → OwnFields valid written → Spelling valid valid written
+token_spelling own = record { knows = λ a ok. ok; text = own.text; valid_from = λ a ok text. ok; same = own.same }

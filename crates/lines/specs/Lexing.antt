@@ -1,5 +1,5 @@
 -- What the tokens of a text are.
-use Rattle.std.specs.Prelude.{◌≡◌, ℕ, ◌+◌, ◌<◌, cond, ◌&&◌, ◌||◌, List, [], ◌∷◌, ◌++◌, length, take, drop, Some, None, Option, ◌==◌, ◌≢◌, nat_le}
+use Rattle.std.specs.Prelude.{◌≡◌, ℕ, ◌+◌, ◌<◌, cond, ◌&&◌, ◌||◌, List, [], ◌∷◌, ◌++◌, length, take, drop, Some, None, Option, ◌==◌, nat_le}
 use Rattle.lines.specs.Lines.{newlines, gap, lexeme}
 use Rattle.lines.specs.declared.token.Place.{Place}
 use Rattle.lines.specs.declared.token.Token.{Token}
@@ -73,18 +73,6 @@ Next s None u = (rest s ≡ []) × (u ≡ s)
 -- u is s with nothing left
 abbrev pub Finished : Tokens → Tokens → Type 0
 Finished s u = (rest u ≡ []) × SameText s u
-
--- no token of sort k comes next
-abbrev pub Other : Sort → Tokens → Tokens → Type 0
-Other k s u = (0 < length (rest s) → text_sort (lexeme (rest s)) ≢ k) × SameText s u
-
--- x is the text of a token of sort k that s went on with, and u stands after it
-pub record Taken (k : Sort) (s : Tokens) (x : List ℕ) (u : Tokens) : Type 0 where
-  pub some : 0 < length (rest s)
-  pub sorted : text_sort x ≡ k
-  pub is : x ≡ lexeme (rest s)
-  pub split : rest s ≡ gap (rest s) ++ (x ++ rest u)
-  pub text : SameText s u
 
 -- x is the text of a field that s went on with, an empty one too, and u stands after it
 pub record TakenField (s : Tokens) (x : List ℕ) (u : Tokens) : Type 0 where

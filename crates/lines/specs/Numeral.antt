@@ -1,25 +1,12 @@
--- Which texts are numbers: what `decimal` writes, of at most ten digits.
-use Rattle.std.specs.Prelude.{◌≡◌, ℕ, ◌^◌, ◌<◌, ◌≤◌, List, length, ℤ, Some, None, Option, ◌≢◌, slice_index_or, unsigned_abs}
-use Rattle.std.specs.Str.Parse.{AllDigits, digits_value}
+-- Which texts are numbers: what `decimal` and `signed_decimal` write, of at most ten digits.
+use Rattle.std.specs.Prelude.{◌≡◌, ℕ, ◌^◌, ◌<◌, Bool, false, ◌||◌, ◌==◌, List, [], ◌∷◌, ℤ, Some, None, Option, ◌≢◌, unsigned_abs}
+use Rattle.std.specs.Fmt.{signed_decimal}
 
-pub record IsDigit (b : ℕ) : Type 0 where
-  pub low : 48 ≤ b
-  pub high : b ≤ 57
-
--- one to ten bytes
-pub record FewBytes (text : List ℕ) : Type 0 where
-  pub some : 0 < length text
-  pub few : length text ≤ 10
-
--- a 0 before another byte
-pub record LeadingZero (text : List ℕ) : Type 0 where
-  pub more : 1 < length text
-  pub zero : slice_index_or text 0 0 ≡ 48
-
--- digits, and what they come to
-abbrev pub IsValue : List ℕ → Option ℕ → Type 0
-IsValue text (Some n) = AllDigits 10 text × (n ≡ digits_value 10 text)
-IsValue text None = AllDigits 10 text → ⊥
+-- a plus stands first, or a 0 before another byte
+abbrev pub starts_loosely : List ℕ → Bool
+starts_loosely [] = false
+starts_loosely (b ∷ []) = b == 43
+starts_loosely (b ∷ (c ∷ bs)) = b == 43 || b == 48
 
 -- of at most ten digits
 abbrev pub Short : ℕ → Type 0
@@ -32,3 +19,10 @@ ShortZ z = Short (unsigned_abs z)
 abbrev pub Spelt : {A : Type 0} → (A → Type 0) → (A → List ℕ) → List ℕ → Option A → Type 0
 Spelt valid written text (Some a) = valid a × (text ≡ written a)
 Spelt {A} valid written text None = (a : A) → valid a → text ≢ written a
+
+-- a value that is a number, and what is written of that
+abbrev pub Legible : {A : Type 0} → (A → ℤ) → A → Type 0
+Legible value a = ShortZ (value a)
+
+abbrev pub numeral : {A : Type 0} → (A → ℤ) → A → List ℕ
+numeral value a = signed_decimal (value a)

@@ -5,16 +5,10 @@ ghost use Rattle.lines.specs.Lines.{begins_blank};
 
 use crate::token::Tokens;
 
-fn is_empty(bytes: &[u8]) -> bool
-    ensures { MatchBool result (bytes.now ≡ []) (0 < length bytes.now) }
-{
-    bytes.len() == 0
-}
-
 pub(crate) fn starts_blank(bytes: &[u8]) -> bool
     ensures { result ≡ begins_blank bytes.now }
 {
-    bytes.len() > 0 && bytes[0] == b' '
+    matches!(bytes, [b' ', ..])
 }
 
 impl<'a> Tokens<'a> {
@@ -40,7 +34,7 @@ impl<'a> Tokens<'a> {
     pub fn is_at_end(&self) -> bool
         ensures { MatchBool result (rest self.now ≡ []) (0 < length (rest self.now)) }
     {
-        is_empty(self.left())
+        self.left().is_empty()
     }
 
     // The line that the cursor stands in, counted from 1.

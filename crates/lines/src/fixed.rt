@@ -12,16 +12,8 @@ impl fmt::Display for Fixed8 {
     ghost output = { λ x. Some (fixed8 x.0) };
 
     fn fmt<W: fmt::Write>(&self, f: &mut fmt::Formatter<W>) -> fmt::Result {
-        let n = self.0;
-        let whole = n / 100_000_000;
-        let a = n / 10_000_000 % 10;
-        let b = n / 1_000_000 % 10;
-        let c = n / 100_000 % 10;
-        let d = n / 10_000 % 10;
-        let e = n / 1_000 % 10;
-        let g = n / 100 % 10;
-        let h = n / 10 % 10;
-        let i = n % 10;
-        write!(f, "{whole}.{a}{b}{c}{d}{e}{g}{h}{i}")
+        let whole = self.0 / 100_000_000;
+        let decimals = self.0 % 100_000_000;
+        write!(f, "{whole}.{decimals:08}")
     }
 }

@@ -10,30 +10,27 @@ use crate::token::{Place, Token, Tokens};
 fn field_len(bytes: &[u8]) -> usize
     ensures { result ≡ length (field bytes.now) }
 {
-    let mut n = 0;
-    while n < bytes.len() && bytes[n] != b' ' && bytes[n] != b'\n' {
-        n += 1;
-    }
-    n
+    bytes
+        .iter()
+        .position(|b| *b == b' ' || *b == b'\n')
+        .unwrap_or(bytes.len())
 }
 
 // How many bytes stand before the first token: one where a blank stands there.
 fn gap_len(bytes: &[u8]) -> usize
     ensures { result ≡ length (gap bytes.now) }
 {
-    if starts_blank(bytes) { 1 } else { 0 }
+    usize::from(starts_blank(bytes))
 }
 
 // The length of the first token's text.
 fn lexeme_len(bytes: &[u8]) -> usize
     ensures { result ≡ length (lexeme bytes.now) }
 {
-    if bytes.len() == 0 {
-        return 0;
-    }
-    match bytes[0] {
-        b'\n' => 1,
-        b' ' => field_len(&bytes[1..]),
+    match bytes {
+        [] => 0,
+        [b'\n', ..] => 1,
+        [b' ', rest @ ..] => field_len(rest),
         _ => field_len(bytes),
     }
 }
@@ -41,18 +38,15 @@ fn lexeme_len(bytes: &[u8]) -> usize
 fn line_ends(byte: u8) -> usize
     ensures { result ≡ newlines (byte ∷ []) }
 {
-    if byte == b'\n' { 1 } else { 0 }
+    usize::from(byte == b'\n')
 }
 
 fn token<'a>(bytes: &'a [u8], place: Place) -> Token<'a>
     ensures { Made bytes.now place result }
 {
-    if bytes.len() == 0 {
-        return Token::Word(bytes, place);
-    }
-    match bytes[0] {
-        b'\n' => Token::LineEnd(bytes, place),
-        b'0'..=b'9' | b'-' => Token::Number(bytes, place),
+    match bytes {
+        [b'\n', ..] => Token::LineEnd(bytes, place),
+        [b'0'..=b'9' | b'-', ..] => Token::Number(bytes, place),
         _ => Token::Word(bytes, place),
     }
 }

@@ -4,12 +4,12 @@
 
 pub mod cursor;
 pub mod fault;
-pub mod field;
 pub mod fixed;
 pub mod lexer;
 pub mod number_lines;
 pub mod numeral;
 pub mod reader;
+pub mod row;
 #[cfg(test)]
 mod tests;
 pub mod token;

@@ -1,71 +1,53 @@
 // Reading the text of one number: base ten, one to ten digits, no leading zero.
-ghost use Rattle.std.specs.Prelude.{decimal, Decides};
-ghost use Rattle.std.specs.Fmt.{signed_decimal};
-ghost use Rattle.lines.specs.Numeral.{FewBytes, IsDigit, IsValue, LeadingZero, Short, ShortZ, Spelt};
+ghost use Rattle.std.specs.Prelude.{◌≡◌, ℤ, pos, unsigned_abs};
+ghost use Rattle.std.proofs.Common.{ap};
+ghost use Rattle.lines.specs.Numeral.{Legible, Spelt, numeral, starts_loosely};
 
-fn is_digit(byte: u8) -> bool
-    ensures { Decides result (IsDigit byte) }
-{
-    matches!(byte, b'0'..=b'9')
+// A type of numbers that stand in fields.
+pub trait Numeral: Copy {
+    // the number that a value is
+    ghost value: { Self → ℤ };
+
+    // The number that the whole of `text` writes.
+    fn from_text(text: &[u8]) -> Option<Self>
+        ensures { Spelt (Legible value) (numeral value) text.now result };
+
+    ghost apart: { (a b : Self) → value a ≡ value b → a ≡ b };
 }
 
-// The value of a text of digits; nothing where another byte is among them.
-fn digits_value(text: &[u8]) -> Option<u64>
-    requires { FewBytes text.now }
-    ensures { IsValue text.now result }
+// Whether `parse` would read what is never written: a plus first, or a 0 before another byte.
+fn starts_loosely(text: &[u8]) -> bool
+    ensures { result ≡ starts_loosely text.now }
 {
-    let mut n: u64 = 0;
-    for b in text {
-        if !is_digit(*b) {
+    matches!(text, [b'+', ..] | [b'0', _, ..])
+}
+
+impl Numeral for u64 {
+    ghost value = { pos };
+
+    ghost apart = { λ a b e. ap unsigned_abs e };
+
+    fn from_text(text: &[u8]) -> Option<u64> {
+        if text.len() > 10 || starts_loosely(text) {
             return None;
         }
-        n = n * 10 + (*b - b'0') as u64;
+        std::str::from_utf8(text).ok()?.parse().ok()
     }
-    Some(n)
 }
 
-// Whether there are one to ten bytes.
-fn has_few_bytes(text: &[u8]) -> bool
-    ensures { Decides result (FewBytes text.now) }
-{
-    text.len() > 0 && text.len() <= 10
-}
+// Here a minus may stand before a number that is not 0.
+impl Numeral for i64 {
+    ghost value = { λ z. z };
 
-// Whether a 0 stands before another byte.
-fn has_leading_zero(text: &[u8]) -> bool
-    ensures { Decides result (LeadingZero text.now) }
-{
-    text.len() > 1 && text[0] == b'0'
-}
+    ghost apart = { λ a b e. e };
 
-// The number that the whole of `text` writes.
-pub fn number(text: &[u8]) -> Option<u64>
-    ensures { Spelt Short decimal text.now result }
-{
-    if !has_few_bytes(text) {
-        return None;
-    }
-    if has_leading_zero(text) {
-        return None;
-    }
-    digits_value(text)
-}
-
-// The same, where a minus may stand before a number that is not 0.
-pub fn integer(text: &[u8]) -> Option<i64>
-    ensures { Spelt ShortZ signed_decimal text.now result }
-{
-    if text.len() > 0 && text[0] == b'-' {
-        let Some(n) = number(&text[1..]) else {
-            return None;
-        };
-        if n == 0 {
-            return None;
+    fn from_text(text: &[u8]) -> Option<i64> {
+        match text {
+            [b'-', digits @ ..] => match u64::from_text(digits)? {
+                0 => None,
+                n => Some(-(n as i64)),
+            },
+            _ => Some(u64::from_text(text)? as i64),
         }
-        return Some(-(n as i64));
     }
-    let Some(n) = number(text) else {
-        return None;
-    };
-    Some(n as i64)
 }

@@ -1,30 +1,30 @@
 // The edges of the form, and the places of tokens.
 use crate::fault::Fault;
-use crate::numeral;
+use crate::numeral::Numeral;
 use crate::token::{Token, Tokens};
 use refusals::Refusal;
 use std::test::Fail;
 
 #[test]
 fn numbers_have_one_to_ten_digits(rt: HostRuntime) {
-    assert_eq!(rt; numeral::number(b"0"), Some(0));
-    assert_eq!(rt; numeral::number(b"7"), Some(7));
-    assert_eq!(rt; numeral::number(b"9999999999"), Some(9_999_999_999));
+    assert_eq!(rt; u64::from_text(b"0"), Some(0));
+    assert_eq!(rt; u64::from_text(b"7"), Some(7));
+    assert_eq!(rt; u64::from_text(b"9999999999"), Some(9_999_999_999));
 }
 
 #[test]
 fn other_texts_are_no_numbers(rt: HostRuntime) {
     for text in ["", "10000000000", "00", "07", "-7", "+7", "7a", "7 "] {
-        assert_eq!(rt; numeral::number(text.as_bytes()), None, "{}", text);
+        assert_eq!(rt; u64::from_text(text.as_bytes()), None, "{}", text);
     }
 }
 
 #[test]
 fn integers_may_have_a_minus(rt: HostRuntime) {
-    assert_eq!(rt; numeral::integer(b"-9999999999"), Some(-9_999_999_999));
-    assert_eq!(rt; numeral::integer(b"0"), Some(0));
+    assert_eq!(rt; i64::from_text(b"-9999999999"), Some(-9_999_999_999));
+    assert_eq!(rt; i64::from_text(b"0"), Some(0));
     for text in ["", "-", "-0", "--7", "-07", "7-", "-12345678901"] {
-        assert_eq!(rt; numeral::integer(text.as_bytes()), None, "{}", text);
+        assert_eq!(rt; i64::from_text(text.as_bytes()), None, "{}", text);
     }
 }
 
@@ -87,9 +87,9 @@ fn a_cursor_knows_where_it_stands(rt: HostRuntime) {
 fn readers_go_field_by_field(rt: HostRuntime) {
     let mut tokens = Tokens::new(b"12 0\n5");
     assert!(rt; !tokens.at_blank());
-    assert_eq!(rt; tokens.number(), Some(12));
+    assert_eq!(rt; tokens.number(), Some(12u64));
     assert!(rt; tokens.at_blank());
-    assert_eq!(rt; tokens.field(), Some(0));
+    assert_eq!(rt; tokens.field(), Some(0u64));
     assert_eq!(rt; tokens.line_end(), Some(()));
     assert_eq!(rt; tokens.line(), 2);
     assert!(rt; !tokens.is_at_end());

@@ -1,13 +1,12 @@
 // Writing the numbers of a load.
-ghost use Rattle.std.specs.Prelude.{◌≡◌, [], ◌∷◌};
-ghost use Rattle.std.specs.Fmt.{signed_decimal};
+ghost use Rattle.std.specs.Prelude.{◌≡◌, []};
 ghost use Rattle.lines.specs.Reading.{spaced};
 ghost use Rattle.load_lines.specs.Loads.{load_text, load_numbers};
 ghost use Rattle.writing.specs.Writing.{Writes};
 
 use effect::Written;
 use loads::Load;
-use writing::Writer;
+use writing::{Style, Whole, Writer};
 
 // The numbers before the effect, in their order.
 fn numbers_of<E>(load: &Load<E>) -> [u64; 6]
@@ -23,19 +22,13 @@ fn numbers_of<E>(load: &Load<E>) -> [u64; 6]
     ]
 }
 
-fn integer_field(out: &mut Writer, z: i64)
-    ensures { Writes out.old (32 ∷ signed_decimal z) out.new }
-{
-    out.put(b' ');
-    out.integer(z);
-}
-
 // The numbers of an effect, each after one blank.
-fn write_effect<E: Written>(out: &mut Writer, effect: E)
-    ensures { Writes out.old (spaced signed_decimal (E.Written.writes.numbers effect) []) out.new }
+pub fn write_effect<E: Written, S: Style>(out: &mut Writer, effect: E)
+    ensures { Writes out.old (spaced S.shown (E.Written.writes.numbers effect) []) out.new }
 {
     for place in 0..E::count() {
-        integer_field(out, effect.number(place));
+        out.put(b' ');
+        S::show(out, effect.number(place));
     }
 }
 
@@ -44,5 +37,5 @@ pub fn write_load<E: Written>(out: &mut Writer, load: &Load<E>)
     ensures { Writes out.old (load_text E.Written.writes load.now []) out.new }
 {
     out.fields(&numbers_of(load));
-    write_effect(out, load.effect);
+    write_effect::<E, Whole>(out, load.effect);
 }

@@ -1,4 +1,4 @@
 pub mod Overlays
 pub mod TwoPasses
-pub mod Signs
+pub mod Digits
 pub mod Onward

@@ -3,7 +3,9 @@
 
 mod numbers;
 mod passes;
+mod styles;
 mod writer;
 
 pub use passes::{Text, write_whole};
+pub use styles::{Decimals, Style, Whole};
 pub use writer::Writer;

@@ -1,13 +1,21 @@
 // Writing numbers.
 ghost use Rattle.std.specs.Prelude.{◌+◌, ◌%◌, [], ◌∷◌, decimal};
-ghost use Rattle.std.specs.Fmt.{signed_decimal};
 ghost use Rattle.lines.specs.Fixed.{fixed8, padded};
 ghost use Rattle.lines.specs.Reading.{spaced};
 ghost use Rattle.writing.specs.Writing.{Writes, signed_fixed8};
 
 use crate::writer::Writer;
+use itoa::{Buffer, Integer};
 
 impl Writer<'_> {
+    // `n` in base ten, with a minus only below zero.
+    pub fn number<I: Integer>(&mut self, n: I)
+        ensures { Writes self.old (I.text n) self.new }
+    {
+        let mut buffer = Buffer::new();
+        self.word(buffer.format(n).as_bytes());
+    }
+
     // The last digit of `n`.
     fn digit(&mut self, n: u64)
         ensures { Writes self.old ((48 + n % 10) ∷ []) self.new }
@@ -15,38 +23,13 @@ impl Writer<'_> {
         self.put(b'0' + (n % 10) as u8);
     }
 
-    // `n` in base ten.
-    pub fn number(&mut self, n: u64)
-        ensures { Writes self.old (decimal n) self.new }
-    {
-        if n >= 10 {
-            self.number(n / 10);
-        }
-        self.digit(n);
-    }
-
-    // `z` in base ten, with a minus only below zero.
-    pub fn integer(&mut self, z: i64)
-        ensures { Writes self.old (signed_decimal z) self.new }
-    {
-        if z < 0 {
-            self.put(b'-');
-        }
-        self.number(z.unsigned_abs());
-    }
-
     // The last eight digits of `n`, leading zeros too.
     fn decimals(&mut self, n: u64)
         ensures { Writes self.old (padded 8 n) self.new }
     {
-        self.digit(n / 10_000_000);
-        self.digit(n / 1_000_000);
-        self.digit(n / 100_000);
-        self.digit(n / 10_000);
-        self.digit(n / 1_000);
-        self.digit(n / 100);
-        self.digit(n / 10);
-        self.digit(n);
+        for k in (0..8).rev() {
+            self.digit(n / 10u64.pow(k));
+        }
     }
 
     // `n` hundred-millionths in units, with eight decimals.

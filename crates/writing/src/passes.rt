@@ -1,11 +1,12 @@
-// Writing a whole text: one pass measures, a second writes.
+// Writing a whole text: a first pass over no buffer counts, a second writes.
 ghost use Rattle.std.specs.Prelude.{ℕ, List};
-ghost use Rattle.writing.specs.Writing.{Fitted, Measured, Overwritten, Writes};
+ghost use Rattle.writing.specs.Writing.{Fitted, Overlaid, Writes};
 
 use crate::writer::Writer;
 use refusals::Refusal;
 
 // What can be written, always as the same bytes.
+// Kept: `Display` promises nothing where `fmt` gives an error, so that a buffer is refused only where it is too short would not follow.
 pub trait Text {
     ghost text: { Self → List ℕ };
 
@@ -13,30 +14,11 @@ pub trait Text {
         ensures { Writes out.old (text self.now) out.new };
 }
 
-// Whether `out` has room for the text. The buffer stays as it is.
-fn has_room_for<T: Text>(text: &T, out: &mut [u8]) -> bool
-    ensures { Measured (T.Text.text text.now) out.old result out.new }
+// Writes the text over the start of `out`, as far as that has room, and gives how many bytes the text has.
+fn write_over<T: Text>(text: &T, out: &mut [u8]) -> usize
+    ensures { Overlaid (T.Text.text text.now) out.old result out.new }
 {
-    let mut writer = Writer {
-        out,
-        at: 0,
-        fits: true,
-        measures: true,
-    };
-    text.write_to(&mut writer);
-    writer.fits
-}
-
-// Writes the text from the start of `out`, as far as that has room, and gives the number of bytes written.
-fn overwrite<T: Text>(text: &T, out: &mut [u8]) -> usize
-    ensures { Overwritten (T.Text.text text.now) out.old result out.new }
-{
-    let mut writer = Writer {
-        out,
-        at: 0,
-        fits: true,
-        measures: false,
-    };
+    let mut writer = Writer { out, at: 0 };
     text.write_to(&mut writer);
     writer.at
 }
@@ -45,8 +27,9 @@ fn overwrite<T: Text>(text: &T, out: &mut [u8]) -> usize
 pub fn write_whole<T: Text>(text: &T, out: &mut [u8]) -> Result<usize, Refusal>
     ensures { Fitted (T.Text.text text.now) out.old result out.new }
 {
-    if !has_room_for(text, out) {
+    let length = write_over(text, &mut []);
+    if length > out.len() {
         return Err(Refusal::OutputTooLong);
     }
-    Ok(overwrite(text, out))
+    Ok(write_over(text, out))
 }

@@ -1,4 +1,4 @@
-use Rattle.lines.proofs.Sequences.{no_first, no_second, both}
+use Rattle.lines.proofs.Sequences.{no_first, no_second}
 use Rattle.load_lines.proofs.LoadForm as form
 use Rattle.load_lines.proofs.reading.load_line.Goals as goal
 
@@ -11,8 +11,3 @@ pub returns-in_err-effect : goal.returns-in_err-effect
 returns-in_err-effect g c =
     let q = form.load_line g.E.Written.writes g.met.E.Written.legible in
     rw c.from_residual-in_err-effect.ensures (no_second q c.args.tokens.now c.fields.new.self c.effect_line.new.tokens c.in_ok-fields.fields c.in_ok-fields.ensures c.in_err-effect.ensures)
-
-pub returns : goal.returns
-returns g c =
-    let q = form.load_line g.E.Written.writes g.met.E.Written.legible in
-    both q c.args.tokens.now c.fields.new.self c.effect_line.new.tokens c.in_ok-fields.fields c.in_ok-effect.effect c.in_ok-fields.ensures c.in_ok-effect.ensures

@@ -4,9 +4,6 @@ use Rattle.lines.specs.Reading.{spaced}
 use Rattle.writing.proofs.Onward.{onward_more, onward_all}
 use Rattle.writing.proofs.writer.Writer.fields.Goals as goal
 
-pub loop-n-init : goal.loop-n-init
-loop-n-init c = λ z w. w
-
 pub loop-n-preserved : goal.loop-n-preserved
 loop-n-preserved c =
     onward_more c.loop-n.invariant (at_drop_more (λ l. spaced decimal l []) c.args.numbers.now c.loop-n.n-index 0 c.loop-n-test.true) c.field.ensures
