@@ -1,7 +1,7 @@
 -- One changed storey, and the loads of a section.
 -- Assumes nothing.
-use Rattle.std.proofs.Common.{◌≡◌, ℕ, ◌+◌, ◌-◌, ◌<◌, ◌≤◌, cond, take, count_by, is_some, length-take, ◌≢◌, List, Some, Option, length, get_or, set, refl, arith, get_or-set_same, get_or-set_other}
-use Rattle.std.proofs.lemmas.List.Sums.{count_by-le-length, get_or-le-sum_by}
+use Rattle.std.proofs.Common.{◌≡◌, ℕ, ◌+◌, ◌-◌, ◌<◌, ◌≤◌, take, count_by, is_some, length-take, ◌≢◌, List, Option, length, set, refl, arith, get_or-set_same, get_or-set_other}
+use Rattle.std.proofs.lemmas.List.Sums.{count_by-le-length}
 use Rattle.column.specs.Answer.{Has, Loads, Replaced}
 use Rattle.column.specs.Loads.{InRange, LoadsOf}
 use Rattle.column.specs.declared.storeys.Storey.{Storey}
@@ -23,12 +23,6 @@ replaced xs s place storey e low =
       others = λ k n ne. let other : (k - 1) ≢ place = λ q. ne (omega (arith, n.0, q, e)) in rw get_or-set_other refl;
       table = rw p refl;
     }
-
--- a storey that is set is counted
-pub counted : (xs : List (Option Storey)) (i : ℕ) (x : Storey) (d : Option Storey) → i < length xs → d ≡ get_or xs i d → d ≡ Some x → 1 ≤ count_by is_some xs
-counted xs i x d low at is =
-    let t = get_or-le-sum_by (λ y. cond (is_some y) 1 0) xs i d low in
-    rw (← at, is) at t
 
 -- what the storeys down to a section come to
 pub section : (s last : ℕ) (xs : List (Option Storey)) (full reduced : ℕ) → s ≡ last + 1 → s ≤ 40 → LoadsOf (take (last + 1) xs) full reduced → Loads s xs full reduced

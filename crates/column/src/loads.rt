@@ -32,7 +32,7 @@ impl Storey {
 fn count_set(storeys: &[Option<Storey>]) -> u64
     ensures { result ≡ count_by is_some storeys.now }
 {
-    storeys.iter().filter(|storey| storey.is_some()).count() as u64
+    storeys.iter().flatten().count() as u64
 }
 
 // The full and the reduced load of the storeys down to a section.
@@ -43,12 +43,10 @@ pub(crate) fn section_loads(storeys: &[Option<Storey>]) -> (u64, u64)
     let count = count_set(storeys);
     let mut full = 0;
     let mut reduced = 0;
-    for storey in storeys {
-        if let Some(storey) = storey {
-            let (f, r) = storey.loads(count);
-            full += f;
-            reduced += r;
-        }
+    for storey in storeys.iter().flatten() {
+        let (f, r) = storey.loads(count);
+        full += f;
+        reduced += r;
     }
     (full, reduced)
 }
