@@ -1,4 +1,4 @@
 pub mod Bounds
+pub mod Flat
 pub mod Tables
-pub mod Upto
 pub mod TwoStoreys

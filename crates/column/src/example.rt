@@ -1,13 +1,13 @@
 // A worked example: two equal storeys.
 ghost use Rattle.std.specs.Prelude.{◌≡◌, Ok};
-ghost use Rattle.column.specs.Example.{two_storeys_column};
+ghost use Rattle.column.specs.Example.{TwoStoreys};
 
 use crate::Column;
 use refusals::Refusal;
 
 // The loads below the first and below the second storey of that column.
 fn both_sections(column: &Column) -> Result<((u64, u64), (u64, u64)), Refusal>
-    requires { column.now.table.storeys ≡ two_storeys_column }
+    requires { TwoStoreys column.now.storeys }
     ensures { result ≡ Ok ((7020000000000, 4914000000000), (14040000000000, 8595288000000)) }
 {
     Ok((column.section(1)?, column.section(2)?))

@@ -1,6 +1,6 @@
-// The loads of one storey.
-ghost use Rattle.std.specs.Prelude.{◌≡◌, ◌*◌, ◌≤◌, true};
-ghost use Rattle.column.specs.Loads.{factor_of_load, InRange, fits, is_set, design_of, full_of, reduced_of};
+// The loads of storeys, in units of 0.00000001 N.
+ghost use Rattle.std.specs.Prelude.{◌≡◌, ◌*◌, ◌≤◌, length, count_by, is_some};
+ghost use Rattle.column.specs.Loads.{factor_of_load, design_of, LoadsOf};
 ghost use Rattle.reduction.specs.Factor.{factor_of};
 
 use crate::storeys::Storey;
@@ -9,38 +9,44 @@ use crate::storeys::Storey;
 fn load_factor(load: u64) -> u64
     ensures { result ≡ factor_of_load load }
 {
-    match load {
-        q if q < 2_000 => 130,
-        _ => 120,
+    if load < 2_000 { 130 } else { 120 }
+}
+
+impl Storey {
+    // The full and the reduced load of this storey, where `count` storeys are set down to the section.
+    fn loads(&self, count: u64) -> (u64, u64)
+        requires { (1 ≤ count) × (count ≤ 40) }
+        ensures full { result.0 ≡ design_of self.now * 10000 }
+        ensures reduced { result.1 ≡ design_of self.now * factor_of self.now.class self.now.area count }
+        ensures bound { (result.0 ≤ 65000000000000000) × (result.1 ≤ result.0) }
+    {
+        let design = self.load * self.area * load_factor(self.load);
+        match reduction::factor(self.class, self.area, count) {
+            Ok(factor) => (design * 10_000, design * factor),
+            Err(_) => unreachable(),
+        }
     }
 }
 
-// The full and the reduced load of a set storey, where `count` storeys are set down to the section, in units of 0.00000001 N.
-fn set_loads(class: u64, area: u64, load: u64, count: u64) -> (u64, u64)
-    requires ranges { InRange class area load }
-    requires few { (1 ≤ count) × (count ≤ 40) }
-    ensures full { result.0 ≡ design_of area load * 10000 }
-    ensures reduced { result.1 ≡ design_of area load * factor_of class area count }
-    ensures bound { (result.0 ≤ 65000000000000000) × (result.1 ≤ result.0) }
+// How many storeys are set.
+fn count_set(storeys: &[Option<Storey>]) -> u64
+    ensures { result ≡ count_by is_some storeys.now }
 {
-    let design = load * area * load_factor(load);
-    match reduction::factor(class, area, count) {
-        Ok(f) => (design * 10_000, design * f),
-        Err(_) => unreachable(),
-    }
+    storeys.iter().flatten().count() as u64
 }
 
-// The loads of any storey: none where it is unset.
-pub(crate) fn loads_of(storey: Storey, count: u64) -> (u64, u64)
-    requires ranges { fits storey ≡ true }
-    requires some { is_set storey ≡ true → 1 ≤ count }
-    requires few { count ≤ 40 }
-    ensures full { result.0 ≡ full_of storey }
-    ensures reduced { result.1 ≡ reduced_of count storey }
-    ensures bound { (result.0 ≤ 65000000000000000) × (result.1 ≤ result.0) }
+// The full and the reduced load of the storeys down to a section.
+pub(crate) fn section_loads(storeys: &[Option<Storey>]) -> (u64, u64)
+    requires { length storeys.now ≤ 40 }
+    ensures { LoadsOf storeys.now result.0 result.1 }
 {
-    match storey {
-        Storey::Unset => (0, 0),
-        Storey::Set { class, area, load } => set_loads(class, area, load, count),
+    let count = count_set(storeys);
+    let mut full = 0;
+    let mut reduced = 0;
+    for storey in storeys.iter().flatten() {
+        let (f, r) = storey.loads(count);
+        full += f;
+        reduced += r;
     }
+    (full, reduced)
 }

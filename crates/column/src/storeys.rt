@@ -1,75 +1,30 @@
-// The table of a column's storeys, at places from 0 at the top. It takes any values.
-ghost use Rattle.std.specs.Prelude.{◌≡◌, ◌<◌, ◌≤◌, set, replicate, slice_index_or, slice_set};
-ghost use Rattle.column.specs.Answer.{Lowest};
-ghost use Rattle.column.specs.Loads.{set_count};
+// What is set for a storey.
+ghost use Rattle.std.specs.Prelude.{◌≤◌};
 
-// A storey is unset, or it has a class, an area in hundredths of a square metre and a floor load in newtons per square metre.
+use refusals::Refusal;
+
+// A class, an area in hundredths of a square metre and a floor load in newtons per square metre, each in its range.
 #[derive(Clone, Copy)]
-pub enum Storey {
-    Unset,
-    Set { class: u64, area: u64, load: u64 },
+pub struct Storey {
+    pub class: u64,
+    pub area: u64,
+    pub load: u64,
+    pub ghost class_high: { class ≤ 2 },
+    pub ghost area_low: { 1 ≤ area },
+    pub ghost area_high: { area ≤ 1000000 },
+    pub ghost load_high: { load ≤ 50000 },
 }
 
 impl Storey {
-    // Sets the storey, whatever it was.
-    fn change(&mut self, class: u64, area: u64, load: u64)
-        ensures { self.new ≡ Storey.Set class area load }
-    {
-        *self = Storey::Set { class, area, load };
-    }
-}
+    ghost use Rattle.column.specs.Answer.{NewStorey};
 
-#[derive(Drop)]
-pub struct Table {
-    pub storeys: [Storey; 40],
-}
-
-impl Table {
-    // A table with no storey set.
-    pub(crate) fn blank() -> Table
-        ensures { result.storeys ≡ replicate 40 Storey.Unset }
+    // A storey of any values that are in their ranges.
+    pub(crate) fn new(class: u64, area: u64, load: u64) -> Result<Storey, Refusal>
+        ensures { NewStorey class area load result }
     {
-        Table {
-            storeys: [Storey::Unset; 40],
+        if class > 2 || area < 1 || area > 1_000_000 || load > 50_000 {
+            return Err(Refusal::ColumnValue);
         }
-    }
-
-    // Changes the storey at a place.
-    pub(crate) fn put(&mut self, i: usize, class: u64, area: u64, load: u64)
-        requires { i < 40 }
-        ensures table { self.new.storeys ≡ slice_set self.old.storeys i (Storey.Set class area load) }
-        ensures place { slice_index_or self.new.storeys i Storey.Unset ≡ Storey.Set class area load }
-    {
-        let place = &mut self.storeys[i];
-        place.change(class, area, load);
-    }
-
-    // How many of the storeys from 1 to `last` are set.
-    pub(crate) fn count_set(&self, last: u64) -> u64
-        requires { last ≤ 40 }
-        ensures { result ≡ set_count last self.now.storeys }
-    {
-        let mut count = 0;
-        for (i, storey) in self.storeys.iter().enumerate() {
-            if (i as u64) < last {
-                if let Storey::Set { .. } = storey {
-                    count += 1;
-                }
-            }
-        }
-        count
-    }
-
-    // The number of the lowest storey that is set, or 0.
-    pub(crate) fn lowest(&self) -> u64
-        ensures { Lowest self.now.storeys result }
-    {
-        let mut lowest = 0;
-        for (i, storey) in self.storeys.iter().enumerate() {
-            if let Storey::Set { .. } = storey {
-                lowest = i as u64 + 1;
-            }
-        }
-        lowest
+        Ok(Storey { class, area, load })
     }
 }

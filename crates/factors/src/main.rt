@@ -2,7 +2,7 @@
 #![tactic(auto)]
 
 use lines::number_lines::NumberLines;
-use listing::Reply;
+use listing::{Reply, line_factor};
 use std::io;
 use std::io::{BufWriter, Read, Write};
 
@@ -11,7 +11,7 @@ fn main(rt: HostRuntime) -> io::Result<()> {
     rt.stdin().read_to_end(&mut text)?;
     let mut out = BufWriter::new(rt.alloc(), rt.stdout())?;
     for line in NumberLines::<3>::new(text.as_slice()) {
-        let reply = Reply::to_line(line);
+        let reply = Reply(line_factor(line));
         writeln!(out, "{reply}")?;
     }
     out.flush()

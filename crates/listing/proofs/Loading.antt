@@ -1,50 +1,42 @@
 -- One line of a column's text.
 -- Assumes nothing.
-use Rattle.std.proofs.Common.{◌≡◌, ℕ, ◌+◌, ◌<◌, List, [], ◌∷◌, length, get_or, Ok, Err, sym, refl, ap, ◌∙◌, subst, arith}
-use Rattle.refusals.specs.declared.Refusal.{Refusal}
-use Rattle.refusals.specs.declared.Refusal.TheVariants.{BodyLine}
-use Rattle.column.specs.Answer.{SetAnswer}
-use Rattle.column.specs.declared.Column.{Column}
+use Rattle.std.proofs.Common.{◌≡◌, ℕ, ◌+◌, List, [], ◌∷◌, get_or, Some, Ok, Err, Option, Result, sym, refl, ap, ◌∙◌, subst}
+use Rattle.column.specs.declared.storeys.Storey.{Storey}
 use Rattle.lines.specs.Lexing.{rest, line_at}
+use Rattle.lines.specs.NumberLines.{Gives, LineGiven}
 use Rattle.lines.specs.Numeral.{Short}
 use Rattle.lines.specs.Reading.{Row, numbers_line}
+use Rattle.lines.specs.declared.fault.Fault.{Fault}
 use Rattle.lines.specs.declared.token.Tokens.{Tokens}
-use Rattle.lines.proofs.Lengths.{line_longer}
 use Rattle.lines.proofs.Rows.{items}
-use Rattle.listing.specs.Columns.{Loaded, malformed, refused, storeys_of, fault, NoLine, LineDone, LineFaulty}
+use Rattle.listing.specs.Columns.{Loaded, malformed, refused, set, RowSet, fault}
 
-pub malformed_line : (s : Tokens) (c : Column) (k : ℕ) → k ≡ line_at s → NoLine (rest s) → LineFaulty s c (fault BodyLine k) c
-malformed_line s c k e no_line = record {
-  loaded = λ some. subst (λ n. Loaded (line_at s) (rest s) (storeys_of c) (Err (fault BodyLine n))) (sym e) (malformed some no_line);
-  same = refl;
-}
+module _ (s u : Tokens) (xs : List (Option Storey)) (row : Result (List ℕ) Fault) (gives : Gives 4 s (Some row) u) where
+  pub malformed_row : (f : Fault) → row ≡ Err f → Loaded (line_at s) (rest s) xs (Err f)
+  malformed_row f is =
+      let ends = subst (λ r. Gives 4 s (Some r) u) is gives in
+      rw ends.fault (malformed ends.some ends.no_line)
 
-module _ (s t : Tokens) (c d : Column) (ns : List ℕ) (valid : Row Short 4 ns) (line : rest s ≡ numbers_line ns (rest t)) where
-  pub refused_line : (k : ℕ) (e : Refusal) → k ≡ line_at s
-      → SetAnswer (get_or ns 0 0) (get_or ns 1 0) (get_or ns 2 0) (get_or ns 3 0) (storeys_of c) (storeys_of d) (Err e) → LineFaulty s c (fault e k) d
-  refused_line k e at answer =
-      let parts = items 4 ns valid.0 in
-      let kept = subst (λ x. SetAnswer (get_or ns 0 0) (get_or ns 1 0) (get_or ns 2 0) (get_or ns 3 0) (storeys_of c) x (Err e)) answer.2 answer in
-      record {
-        loaded = λ some. subst (λ n. Loaded (line_at s) (rest s) (storeys_of c) (Err (fault e n))) (sym at)
-            (refused _ _ _ _ (rest t) e (subst (Row Short 4) parts valid) (line ∙ ap (λ l. numbers_line l (rest t)) parts) kept);
-        same = answer.2;
-      }
+  module _ (ns : List ℕ) (is : row ≡ Ok ns) where
+    given : LineGiven 4 s ns u
+    given = subst (λ r. Gives 4 s (Some r) u) is gives
 
-  pub done_line : line_at t ≡ line_at s + 1 → SetAnswer (get_or ns 0 0) (get_or ns 1 0) (get_or ns 2 0) (get_or ns 3 0) (storeys_of c) (storeys_of d) (Ok tt) → LineDone s c t d
-  done_line next answer =
-      let parts = items 4 ns valid.0 in
-      record {
-        storey = _;
-        class = _;
-        area = _;
-        load = _;
-        valid = subst (Row Short 4) parts valid;
-        line = line ∙ ap (λ l. numbers_line l (rest t)) parts;
-        set = answer;
-        next = next;
-      }
+    pub next_line : line_at u ≡ line_at s + 1
+    next_line = given.next
 
--- less of the text is left
-pub onward : (s t : Tokens) (c d : Column) → LineDone s c t d → length (rest t) < length (rest s)
-onward s t c d h = omega (arith, ap length h.line, line_longer (h.storey ∷ h.class ∷ h.area ∷ h.load ∷ []) (rest t))
+    -- the row as its four numbers
+    parts : ns ≡ get_or ns 0 0 ∷ get_or ns 1 0 ∷ get_or ns 2 0 ∷ get_or ns 3 0 ∷ []
+    parts = items 4 ns given.valid.0
+
+    pub refused_row : (ys : List (Option Storey)) (line : ℕ) (f : Fault) → line ≡ line_at s → RowSet ns line xs ys (Err f)
+        → Loaded (line_at s) (rest s) xs (Err f)
+    refused_row ys line f at answer =
+        subst (λ k. Loaded (line_at s) (rest s) xs (Err (fault f.refusal k))) (sym (answer.0 ∙ at))
+        (refused _ _ _ _ (rest u) f.refusal (subst (Row Short 4) parts given.valid) (given.line ∙ ap (λ l. numbers_line l (rest u)) parts)
+        (answer.1.0, answer.1.1, refl))
+
+    pub set_row : (ys : List (Option Storey)) (line : ℕ) → RowSet ns line xs ys (Ok tt) → (r : Result (List (Option Storey)) Fault)
+        → Loaded (line_at u) (rest u) ys r → Loaded (line_at s) (rest s) xs r
+    set_row ys line answer r loaded =
+        set _ _ _ _ (rest u) ys (subst (Row Short 4) parts given.valid) (given.line ∙ ap (λ l. numbers_line l (rest u)) parts) answer
+        (subst (λ k. Loaded k (rest u) ys r) given.next loaded)

@@ -1,29 +1,31 @@
 -- What is said of a case, class, area and storeys.
-use Rattle.std.specs.Prelude.{◌≡◌, ℕ, List, ◌++◌, Ok, Err, codes, decimal, Result, slice_index}
-use Rattle.refusals.specs.Numbers.{number_of}
-use Rattle.refusals.specs.declared.Refusal.{Refusal}
+use Rattle.std.specs.Prelude.{◌≡◌, ℕ, List, Ok, Err, decimal, Result, slice_index}
+use Rattle.refusals.specs.Numbers.{refused_text}
 use Rattle.reduction.specs.Answer.{Answer}
 use Rattle.lines.specs.Faults.{fault_text}
 use Rattle.lines.specs.declared.fault.Fault.{Fault}
+use Rattle.listing.specs.declared.factors.NoFactor.{NoFactor}
+use Rattle.listing.specs.declared.factors.NoFactor.TheVariants.{Refused, Malformed}
 use Rattle.listing.specs.declared.factors.Reply.{Reply}
-use Rattle.listing.specs.declared.factors.Reply.TheVariants.{Factor, Refused, Malformed}
+
+abbrev pub no_factor_text : NoFactor → List ℕ
+no_factor_text (Refused e) = refused_text e
+no_factor_text (Malformed x) = fault_text x
+
+abbrev pub factor_text : Result ℕ NoFactor → List ℕ
+factor_text (Ok f) = decimal f
+factor_text (Err e) = no_factor_text e
 
 abbrev pub reply_text : Reply → List ℕ
-reply_text (Factor f) = decimal f
-reply_text (Refused e) = codes "REFUSED " ++ decimal (number_of e)
-reply_text (Malformed x) = fault_text x
-
-abbrev pub reply_of : Result ℕ Refusal → Reply
-reply_of (Ok f) = Factor f
-reply_of (Err e) = Refused e
+reply_text r = factor_text r.0
 
 -- r is what the reduction answers to a case
-pub record CaseReply (class area storeys : ℕ) (r : Reply) : Type 0 where
-  pub answer : Result ℕ Refusal
-  pub answered : Answer class area storeys answer
-  pub reply : r ≡ reply_of answer
+abbrev pub CaseReply : (class area storeys : ℕ) → Result ℕ NoFactor → Type 0
+CaseReply class area storeys (Ok f) = Answer class area storeys (Ok f)
+CaseReply class area storeys (Err (Refused e)) = Answer class area storeys (Err e)
+CaseReply class area storeys (Err (Malformed x)) = ⊥
 
 -- r is what is said of a line with the numbers of a case, or with a fault
-abbrev pub LineReply : Result (List ℕ) Fault → Reply → Type 0
+abbrev pub LineReply : Result (List ℕ) Fault → Result ℕ NoFactor → Type 0
 LineReply (Ok case) r = CaseReply (slice_index case 0) (slice_index case 1) (slice_index case 2) r
-LineReply (Err f) r = r ≡ Malformed f
+LineReply (Err f) r = r ≡ Err (Malformed f)

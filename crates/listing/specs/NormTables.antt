@@ -1,5 +1,5 @@
 -- The rows of the norms' tables, and how they are shown.
-use Rattle.std.specs.Prelude.{ℕ, List, [], ◌∷◌, ◌++◌, codes, decimal}
+use Rattle.std.specs.Prelude.{ℕ, List, [], ◌∷◌, ◌++◌, codes, decimal, slice_index}
 use Rattle.norm.specs.Percentages.{Percentages}
 use Rattle.norm.specs.Tables.{sp20, sp20_special, snip85, snip85_special}
 use Rattle.norm.specs.Words.{norm_word}
@@ -19,22 +19,22 @@ abbrev pub word_of_term : Term → List ℕ
 word_of_term Long = codes "LONG"
 word_of_term Short = codes "SHORT"
 
+-- what a norm answers in a combination
+abbrev pub in_combination : Combination → (basic special : Percentages) → Percentages
+in_combination Basic basic special = basic
+in_combination Special basic special = special
+
 -- the answers of the two norms
 abbrev pub percentage_of : NormName → Combination → Percentages
-percentage_of Sp20 Basic = sp20
-percentage_of Sp20 Special = sp20_special
-percentage_of Snip85 Basic = snip85
-percentage_of Snip85 Special = snip85_special
+percentage_of Sp20 c = in_combination c sp20 sp20_special
+percentage_of Snip85 c = in_combination c snip85 snip85_special
+
+-- the percentages of the roles 1, 2 and 3
+abbrev pub percents_by : Percentages → Term → (long short : ℕ) → List ℕ
+percents_by p t long short = p t 1 long short ∷ p t 2 long short ∷ p t 3 long short ∷ []
 
 abbrev pub row_of : NormName → Combination → Term → (long short : ℕ) → NormRow
-row_of n c t long short = record {
-  norm = n;
-  combination = c;
-  term = t;
-  first = percentage_of n c t 1 long short;
-  second = percentage_of n c t 2 long short;
-  third = percentage_of n c t 3 long short;
-}
+row_of n c t long short = record { norm = n; combination = c; term = t; percents = percents_by (percentage_of n c) t long short }
 
 abbrev pub rows_of : NormName → (long short : ℕ) → List NormRow
 rows_of n long short =
@@ -47,4 +47,4 @@ row_text x =
     ++ (codes " "
     ++ (combination_word x.combination
     ++ (codes " "
-    ++ (word_of_term x.term ++ (codes " " ++ (decimal x.first ++ (codes " " ++ (decimal x.second ++ (codes " " ++ decimal x.third)))))))))
+    ++ (word_of_term x.term ++ (codes " " ++ (decimal (slice_index x.percents 0) ++ (codes " " ++ (decimal (slice_index x.percents 1) ++ (codes " " ++ decimal (slice_index x.percents 2))))))))))

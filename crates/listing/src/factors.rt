@@ -1,58 +1,72 @@
 // The reduction factor of a case, a line `CLASS AREA STOREYS`.
 ghost use Rattle.std.specs.Prelude.{◌≡◌, Some};
-ghost use Rattle.listing.specs.Factors.{CaseReply, LineReply, reply_of, reply_text};
+ghost use Rattle.listing.specs.Factors.{CaseReply, LineReply, no_factor_text, reply_text};
+ghost use Rattle.listing.specs.declared.factors.NoFactor.TheVariants.{Malformed, Refused};
 
 use lines::fault::Fault;
 use refusals::Refusal;
 use std::fmt;
 
-// What is said of a line: the factor in ten-thousandths, why there is none, or that the line is malformed.
+// Why a line has no factor: its case is refused, or it is malformed.
 #[derive(Clone, Copy, PartialEq, Debug)]
-pub enum Reply {
-    Factor(u64),
+pub enum NoFactor {
     Refused(Refusal),
     Malformed(Fault),
 }
+
+impl From<Refusal> for NoFactor {
+    ghost from_gives = { λ e r. r ≡ Refused e };
+
+    fn from(refusal: Refusal) -> NoFactor {
+        NoFactor::Refused(refusal)
+    }
+}
+
+impl From<Fault> for NoFactor {
+    ghost from_gives = { λ x r. r ≡ Malformed x };
+
+    fn from(fault: Fault) -> NoFactor {
+        NoFactor::Malformed(fault)
+    }
+}
+
+impl fmt::Display for NoFactor {
+    ghost output = { λ e. Some (no_factor_text e) };
+
+    fn fmt<W: fmt::Write>(&self, f: &mut fmt::Formatter<W>) -> fmt::Result {
+        match self {
+            NoFactor::Refused(refusal) => write!(f, "{refusal}"),
+            NoFactor::Malformed(fault) => write!(f, "{fault}"),
+        }
+    }
+}
+
+// The factor of a case, in ten-thousandths.
+pub fn case_factor(class: u64, area: u64, storeys: u64) -> Result<u64, NoFactor>
+    ensures { CaseReply class area storeys result }
+{
+    Ok(reduction::factor(class, area, storeys)?)
+}
+
+// The factor of a line's case.
+pub fn line_factor(line: Result<[u64; 3], Fault>) -> Result<u64, NoFactor>
+    ensures { LineReply line result }
+{
+    let [class, area, storeys] = line?;
+    case_factor(class, area, storeys)
+}
+
+// What is said of a line: the factor, or why there is none.
+#[derive(Clone, Copy, PartialEq, Debug)]
+pub struct Reply(pub Result<u64, NoFactor>);
 
 impl fmt::Display for Reply {
     ghost output = { λ r. Some (reply_text r) };
 
     fn fmt<W: fmt::Write>(&self, f: &mut fmt::Formatter<W>) -> fmt::Result {
-        match *self {
-            Reply::Factor(factor) => write!(f, "{factor}"),
-            Reply::Refused(refusal) => write!(f, "REFUSED {}", refusal.number()),
-            Reply::Malformed(fault) => write!(f, "{fault}"),
-        }
-    }
-}
-
-fn reply_to(answer: Result<u64, Refusal>) -> Reply
-    ensures { result ≡ reply_of answer }
-{
-    match answer {
-        Ok(factor) => Reply::Factor(factor),
-        Err(refusal) => Reply::Refused(refusal),
-    }
-}
-
-impl Reply {
-    // What is said of a case.
-    pub fn to_case(class: u64, area: u64, storeys: u64) -> Reply
-        ensures { CaseReply class area storeys result }
-    {
-        reply_to(reduction::factor(class, area, storeys))
-    }
-
-    // What is said of a line: of its case, or its fault.
-    pub fn to_line(line: Result<[u64; 3], Fault>) -> Reply
-        ensures { LineReply line result }
-    {
-        match line {
-            Ok(case) => {
-                let [class, area, storeys] = case;
-                Reply::to_case(class, area, storeys)
-            }
-            Err(fault) => Reply::Malformed(fault),
+        match self.0 {
+            Ok(factor) => write!(f, "{factor}"),
+            Err(none) => write!(f, "{none}"),
         }
     }
 }
@@ -63,16 +77,18 @@ mod tests {
     use lines::number_lines::NumberLines;
     use std::test::Fail;
 
-    fn malformed(line: usize) -> Reply {
+    const REFUSED: Result<u64, NoFactor> = Err(NoFactor::Refused(Refusal::Reduction));
+
+    fn malformed(line: usize) -> Result<u64, NoFactor> {
         let refusal = Refusal::BodyLine;
-        Reply::Malformed(Fault { refusal, line })
+        Err(NoFactor::Malformed(Fault { refusal, line }))
     }
 
-    fn check_replies(text: &[u8], replies: &[Reply]) -> Result<(), Fail> {
+    fn check_replies(text: &[u8], replies: &[Result<u64, NoFactor>]) -> Result<(), Fail> {
         let mut lines = NumberLines::<3>::new(text);
         for reply in replies {
             let line = lines.next().ok_or("a reply is missing")?;
-            if Reply::to_line(line) != *reply {
+            if line_factor(line) != *reply {
                 return Err(Fail::new("another reply"));
             }
         }
@@ -84,17 +100,13 @@ mod tests {
 
     #[test]
     fn each_line_has_its_reply() -> Result<(), Fail> {
-        let refused = Reply::Refused(Refusal::Reduction);
-        let replies = [Reply::Factor(6_324), refused, Reply::Factor(10_000)];
+        let replies = [Ok(6_324), REFUSED, Ok(10_000)];
         check_replies(b"1 2000 3\n3 1 1\n0 0 0\n", &replies)
     }
 
     #[test]
     fn a_malformed_line_is_the_last() -> Result<(), Fail> {
-        check_replies(
-            b"0 0 0\n1 02 3\n1 2000 3\n",
-            &[Reply::Factor(10_000), malformed(2)],
-        )?;
+        check_replies(b"0 0 0\n1 02 3\n1 2000 3\n", &[Ok(10_000), malformed(2)])?;
         check_replies(b"0 0 0", &[malformed(1)])?;
         check_replies(b"\n", &[malformed(1)])?;
         check_replies(b"", &[])

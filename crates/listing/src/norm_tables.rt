@@ -1,30 +1,31 @@
 // The percentages of the norms, a row for each norm, combination and term.
 ghost use Rattle.std.specs.Prelude.{◌≡◌, Some};
-ghost use Rattle.listing.specs.NormTables.{percentage_of, row_of, row_text, rows_of, combination_word, word_of_term};
+ghost use Rattle.listing.specs.NormTables.{percents_by, row_of, row_text, rows_of, combination_word, in_combination, word_of_term};
 
-use norm::{Norm, NormName, Snip85, Sp20, SpecialNorm, Term};
+use norm::{InSpecial, Norm, NormName, Snip85, Sp20, SpecialNorm, Term};
 use std::fmt;
 
-// Which combinations a percentage is for. Each case has its word in a comment.
+// Which combinations a percentage is for.
 #[derive(Clone, Copy, PartialEq, Eq, Debug)]
 pub enum Combination {
-    // BASIC: without a special load
+    // without a special load
     Basic,
-    // SPECIAL: with one
+    // with one
     Special,
 }
 
-impl Combination {
-    pub fn word(self) -> &'static str
-        ensures { result.now ≡ combination_word self }
-    {
-        match self {
+impl fmt::Display for Combination {
+    ghost output = { λ x. Some (combination_word x) };
+
+    fn fmt<W: fmt::Write>(&self, f: &mut fmt::Formatter<W>) -> fmt::Result {
+        f.write_str(match self {
             Combination::Basic => "BASIC",
             Combination::Special => "SPECIAL",
-        }
+        })
     }
 }
 
+// Kept: `Term` is another crate's, so `Display` would need a struct round it here, which is longer than this function.
 fn term_word(term: Term) -> &'static str
     ensures { result.now ≡ word_of_term term }
 {
@@ -34,33 +35,32 @@ fn term_word(term: Term) -> &'static str
     }
 }
 
+// The percentages of the roles 1, 2 and 3, where `long` long-term and `short` short-term loads are taken.
+fn percents<N: Norm>(norm: &N, term: Term, long: u64, short: u64) -> [u64; 3]
+    ensures { result ≡ percents_by (N.percentages norm.now) term long short }
+{
+    [1, 2, 3].map(|role| norm.percent(term, role, long, short))
+}
+
+impl Combination {
+    // The percentages of a norm in this combination.
+    fn percents<N: SpecialNorm>(self, norm: &N, term: Term, long: u64, short: u64) -> [u64; 3]
+        ensures { result ≡ percents_by (in_combination self (N.percentages norm.now) (N.special norm.now)) term long short }
+    {
+        match self {
+            Combination::Basic => percents(norm, term, long, short),
+            Combination::Special => percents(&InSpecial(norm), term, long, short),
+        }
+    }
+}
+
 // The percentages of the roles 1, 2 and 3, where some numbers of loads are taken.
 #[derive(Clone, Copy, PartialEq, Debug)]
 pub struct NormRow {
     pub norm: NormName,
     pub combination: Combination,
     pub term: Term,
-    pub first: u64,
-    pub second: u64,
-    pub third: u64,
-}
-
-fn percentage(
-    norm: NormName,
-    combination: Combination,
-    term: Term,
-    role: u64,
-    long: u64,
-    short: u64,
-) -> u64
-    ensures { result ≡ percentage_of norm combination term role long short }
-{
-    match (norm, combination) {
-        (NormName::Sp20, Combination::Basic) => Sp20.percent(term, role, long, short),
-        (NormName::Sp20, Combination::Special) => Sp20.special_percent(term, role, long, short),
-        (NormName::Snip85, Combination::Basic) => Snip85.percent(term, role, long, short),
-        (NormName::Snip85, Combination::Special) => Snip85.special_percent(term, role, long, short),
-    }
+    pub percents: [u64; 3],
 }
 
 impl NormRow {
@@ -74,13 +74,15 @@ impl NormRow {
     ) -> NormRow
         ensures { result ≡ row_of norm combination term long short }
     {
+        let percents = match norm {
+            NormName::Sp20 => combination.percents(&Sp20, term, long, short),
+            NormName::Snip85 => combination.percents(&Snip85, term, long, short),
+        };
         NormRow {
             norm,
             combination,
             term,
-            first: percentage(norm, combination, term, 1, long, short),
-            second: percentage(norm, combination, term, 2, long, short),
-            third: percentage(norm, combination, term, 3, long, short),
+            percents,
         }
     }
 }
@@ -90,11 +92,9 @@ impl fmt::Display for NormRow {
 
     fn fmt<W: fmt::Write>(&self, f: &mut fmt::Formatter<W>) -> fmt::Result {
         let norm = self.norm.word();
-        let combination = self.combination.word();
+        let combination = self.combination;
         let term = term_word(self.term);
-        let first = self.first;
-        let second = self.second;
-        let third = self.third;
+        let [first, second, third] = self.percents;
         write!(f, "{norm} {combination} {term} {first} {second} {third}")
     }
 }
@@ -104,9 +104,10 @@ pub fn norm_rows(norm: NormName, long: u64, short: u64) -> [NormRow; 4]
     ensures { result ≡ rows_of norm long short }
 {
     [
-        NormRow::of_counts(norm, Combination::Basic, Term::Long, long, short),
-        NormRow::of_counts(norm, Combination::Basic, Term::Short, long, short),
-        NormRow::of_counts(norm, Combination::Special, Term::Long, long, short),
-        NormRow::of_counts(norm, Combination::Special, Term::Short, long, short),
+        (Combination::Basic, Term::Long),
+        (Combination::Basic, Term::Short),
+        (Combination::Special, Term::Long),
+        (Combination::Special, Term::Short),
     ]
+    .map(|(combination, term)| NormRow::of_counts(norm, combination, term, long, short))
 }

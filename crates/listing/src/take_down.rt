@@ -1,38 +1,31 @@
 // The loads of a column, read from lines `STOREY CLASS AREA Q` and said for each section.
 ghost use Rattle.std.specs.Prelude.{Some};
-ghost use Rattle.listing.specs.Columns.{LineSet, Loaded, SectionSaid, blank, loaded_of, section_text, storeys_of};
+ghost use Rattle.listing.specs.Columns.{Loaded, RowSet, SectionSaid, blank, loaded_of, section_text, storeys_of};
 
 use column::Column;
 use lines::fault::Fault;
 use lines::fixed::Fixed8;
-use lines::token::Tokens;
+use lines::number_lines::NumberLines;
 use refusals::Refusal;
 use std::fmt;
 
-// Sets the storey of the next line, or says why it is not set.
-fn set_line(tokens: &mut Tokens, column: &mut Column) -> Result<(), Fault>
-    ensures { LineSet tokens.old column.old result tokens.new column.new }
+// Sets the storey that the numbers of a line say; a refusal is given with the line.
+fn set_row(column: &mut Column, row: [u64; 4], line: usize) -> Result<(), Fault>
+    ensures { RowSet row line (storeys_of column.old) (storeys_of column.new) result }
 {
-    let line = tokens.line();
-    let Some(row) = tokens.numbers::<4>() else {
-        let refusal = Refusal::BodyLine;
-        return Err(Fault { refusal, line });
-    };
     let [storey, class, area, load] = row;
-    match column.set(storey, class, area, load) {
-        Ok(()) => Ok(()),
-        Err(refusal) => Err(Fault { refusal, line }),
-    }
+    column
+        .set(storey, class, area, load)
+        .map_err(|refusal| Fault { refusal, line })
 }
 
 // The column that the lines of a text set, or the first fault.
 pub fn read_column(text: &[u8]) -> Result<Column, Fault>
     ensures { Loaded 1 text.now blank (loaded_of result) }
 {
-    let mut tokens = Tokens::new(text);
     let mut column = Column::new();
-    while !tokens.is_at_end() {
-        set_line(&mut tokens, &mut column)?;
+    for (i, row) in NumberLines::<4>::new(text).enumerate() {
+        set_row(&mut column, row?, i + 1)?;
     }
     Ok(column)
 }
@@ -86,9 +79,8 @@ mod tests {
     // an unset storey between set ones, one set again, and one of class 0
     #[test]
     fn sections_of_a_column(rt: HostRuntime) -> Result<(), Fail> {
-        let column = match read_column(b"1 1 3600 9\n3 0 100 2000\n1 1 3600 1500\n") {
-            Ok(column) => column,
-            Err(_) => return Err(Fail::new("a column is refused")),
+        let Ok(column) = read_column(b"1 1 3600 9\n3 0 100 2000\n1 1 3600 1500\n") else {
+            return Err(Fail::new("a column is refused"));
         };
         assert_eq!(rt; column.lowest(), 3);
         let text = Section::of_column(&column, 3)?.to_string(rt.alloc())?;

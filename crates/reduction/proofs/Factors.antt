@@ -3,6 +3,7 @@
 use Rattle.std.proofs.Common.{◌≡◌, ℕ, zero, suc, ◌+◌, ◌-◌, ◌*◌, ◌≤◌, max, sym, refl, ◌∙◌, subst, inl, inr, zero-le, le_trans, mul-le-mul, mul-le-mul_left, arith, lit≤}
 use native.Mathlib.Nat.{le-max_right}
 use Rattle.reduction.specs.Factor.{Smallest, Sized, InRange, Reduced, Factor, Usable, rooms, halls, first, factor_of}
+use Rattle.reduction.specs.declared.extent.Extent.{Extent}
 use Rattle.reduction.specs.declared.formula.Formula.{Formula}
 use Rattle.reduction.proofs.Least.{smallest_only, first_smallest}
 
@@ -55,6 +56,9 @@ factor_only (suc zero) area storeys f g h p q = reduced_only rooms area storeys 
 factor_only (suc (suc zero)) area storeys f g h p q = reduced_only halls area storeys f g (p.reduced_2 refl) (q.reduced_2 refl)
 factor_only (suc (suc (suc class))) area storeys f g (inl e) p q = omega arith
 factor_only (suc (suc (suc class))) area storeys f g (inr h) p q = omega arith
+
+pub sized_of : (x : Extent) → Sized x.area x.storeys
+sized_of x = record { area_low = x.area_low; area_high = x.area_high; storeys_low = x.storeys_low; storeys_high = x.storeys_high }
 
 -- the base and the smallest k are the factor by the formula, which is at most 10000
 pub reduced_by : (formula : Formula) (area storeys a k : ℕ) → Usable formula → Sized area storeys → a ≡ max area formula.from

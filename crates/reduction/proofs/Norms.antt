@@ -1,12 +1,15 @@
 -- The laws of a factor: it is the norm's formula, rounded up, and falls with area and storeys.
 -- Assumes nothing.
-use Rattle.std.proofs.Common.{◌≡◌, ℕ, ◌-◌, ◌*◌, ◌≤◌, max, Ok, Err, Result, sym, refl, subst, inl, inr, ⊎_elim, le_trans, mul-le-mul, mul-le-mul_left, arith, lit≤}
-use Rattle.refusals.specs.declared.Refusal.{Refusal}
-use Rattle.reduction.specs.Answer.{Given, Answer, AnswerBy}
+use Rattle.std.proofs.Common.{◌≡◌, ℕ, ◌-◌, ◌*◌, ◌≤◌, max, Some, None, sym, refl, subst, inl, inr, le_trans, mul-le-mul, mul-le-mul_left, arith, lit≤}
+use Rattle.reduction.specs.Answer.{Given}
+use Rattle.reduction.specs.Classes.{number_of_class, formula_of}
 use Rattle.reduction.specs.Factor.{Sized, InRange, Reduced, Factor, rooms, halls}
 use Rattle.reduction.specs.Laws.{NotBelow, NotBelowNorm, lowest}
+use Rattle.reduction.specs.declared.class.Class.{Class}
+use Rattle.reduction.specs.declared.class.Class.TheVariants.{Whole, Rooms, Halls}
+use Rattle.reduction.specs.declared.extent.Extent.{Extent}
 use Rattle.reduction.specs.declared.formula.Formula.{Formula}
-use Rattle.reduction.proofs.Factors.{factor_0, factor_1, factor_2, factor_exists, factor_only}
+use Rattle.reduction.proofs.Factors.{factor_0, factor_1, factor_2, factor_exists, factor_only, sized_of}
 
 module _ (formula : Formula) (scale : ℕ) (whole : formula.bound ≡ scale * scale * formula.from) (area storeys f : ℕ) (r : Reduced formula area storeys f) where
   -- the numbers that are not below the formula are those that are large enough
@@ -55,21 +58,23 @@ given_2 area storeys f h r high =
     given 2 area storeys f (inr (lit≤ tt, lit≤ tt, h)) (factor_2 area storeys f r) safe (least_by halls 5000 refl area storeys f r) safe.base_low high
     (λ area' storeys' g a s _ q. falls_by halls area storeys area' storeys' f g a s r (q.reduced_2 refl))
 
--- the answers of each class
-pub answer_0 : (class area storeys : ℕ) → class ≡ 0 → Answer class area storeys (Ok 10000)
-answer_0 class area storeys e = subst (λ (c : ℕ). Given c area storeys 10000) (sym e) (given_0 area storeys)
+-- class 0 alone has no formula
+pub whole : (k : Class) (class area storeys : ℕ) → class ≡ number_of_class k → formula_of k ≡ None → Given class area storeys 10000
+whole Whole class area storeys e p = subst (λ (c : ℕ). Given c area storeys 10000) (sym e) (given_0 area storeys)
+whole Rooms class area storeys e p = absurd cc
+whole Halls class area storeys e p = absurd cc
 
-answer_by : (formula : Formula) (n class area storeys : ℕ) (r : Result ℕ Refusal) → class ≡ n
-    → (InRange n area storeys → Sized area storeys)
-    → ((f : ℕ) → Sized area storeys → Reduced formula area storeys f → f ≤ 10000 → Given n area storeys f)
-    → AnswerBy formula area storeys r → Answer class area storeys r
-answer_by formula n class area storeys (Ok f) e sized known (s, p, b) =
-    subst (λ (c : ℕ). Given c area storeys f) (sym e) (known f s p b)
-answer_by formula n class area storeys (Err x) e sized known (d, out) =
-    (d, λ h. out (sized (subst (λ (c : ℕ). InRange c area storeys) e h)))
+given_in : (k : Class) (formula : Formula) (x : Extent) (f : ℕ) → formula_of k ≡ Some formula → Reduced formula x.area x.storeys f → f ≤ 10000
+    → Given (number_of_class k) x.area x.storeys f
+given_in Whole formula x f p r h = absurd cc
+given_in Rooms formula x f p r h =
+    let q : formula ≡ rooms = cc in
+    given_1 x.area x.storeys f (sized_of x) (subst (λ (y : Formula). Reduced y x.area x.storeys f) q r) h
+given_in Halls formula x f p r h =
+    let q : formula ≡ halls = cc in
+    given_2 x.area x.storeys f (sized_of x) (subst (λ (y : Formula). Reduced y x.area x.storeys f) q r) h
 
-pub answer_1 : (class area storeys : ℕ) (r : Result ℕ Refusal) → class ≡ 1 → AnswerBy rooms area storeys r → Answer class area storeys r
-answer_1 class area storeys r e = answer_by rooms 1 class area storeys r e (⊎_elim (λ z. absurd (omega arith)) (λ i. i.2)) (given_1 area storeys)
-
-pub answer_2 : (class area storeys : ℕ) (r : Result ℕ Refusal) → class ≡ 2 → AnswerBy halls area storeys r → Answer class area storeys r
-answer_2 class area storeys r e = answer_by halls 2 class area storeys r e (⊎_elim (λ z. absurd (omega arith)) (λ i. i.2)) (given_2 area storeys)
+pub reduced : (k : Class) (formula : Formula) (x : Extent) (class area storeys f : ℕ) → class ≡ number_of_class k → formula_of k ≡ Some formula
+    → (x.area ≡ area) × (x.storeys ≡ storeys) → Reduced formula x.area x.storeys f → f ≤ 10000 → Given class area storeys f
+reduced k formula x class area storeys f e p at r h =
+    rw (e, ← at.0, ← at.1) (given_in k formula x f p r h)

@@ -1,10 +1,9 @@
 -- What the reduction answers.
-use Rattle.std.specs.Prelude.{◌≡◌, ℕ, ◌≤◌, Ok, Err, Result}
+use Rattle.std.specs.Prelude.{◌≡◌, ℕ, Ok, Err, Result}
 use Rattle.refusals.specs.declared.Refusal.{Refusal}
 use Rattle.refusals.specs.declared.Refusal.TheVariants.{Reduction}
-use Rattle.reduction.specs.Factor.{Sized, InRange, Reduced, Factor, factor_of}
+use Rattle.reduction.specs.Factor.{InRange, Factor, factor_of}
 use Rattle.reduction.specs.Laws.{Laws}
-use Rattle.reduction.specs.declared.formula.Formula.{Formula}
 
 -- what is known of a factor that is answered
 pub record Given (class area storeys f : ℕ) : Type 0 where
@@ -17,8 +16,3 @@ pub record Given (class area storeys f : ℕ) : Type 0 where
 abbrev pub Answer : (class area storeys : ℕ) → Result ℕ Refusal → Type 0
 Answer class area storeys (Ok f) = Given class area storeys f
 Answer class area storeys (Err e) = (e ≡ Reduction) × (InRange class area storeys → ⊥)
-
--- the same for a class that has a formula
-abbrev pub AnswerBy : Formula → (area storeys : ℕ) → Result ℕ Refusal → Type 0
-AnswerBy formula area storeys (Ok f) = Sized area storeys × Reduced formula area storeys f × (f ≤ 10000)
-AnswerBy formula area storeys (Err e) = (e ≡ Reduction) × (Sized area storeys → ⊥)

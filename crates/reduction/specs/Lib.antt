@@ -1,3 +1,5 @@
 pub mod Factor
 pub mod Laws
 pub mod Answer
+pub mod Classes
+pub mod Extents

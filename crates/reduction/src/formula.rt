@@ -1,6 +1,8 @@
 // The formula of a class: base + (10,000 - base) / √(a × n / from), where n is the number of storeys and a the area, or `from` if that is larger.
 ghost use Rattle.std.specs.Prelude.{◌<◌, ◌≤◌};
-ghost use Rattle.reduction.specs.Factor.{RootAbove, Smallest, Sized, Usable, Reduced};
+ghost use Rattle.reduction.specs.Factor.{RootAbove, Smallest, Usable, Reduced};
+
+use crate::extent::Extent;
 
 // `bound` is the square of 10,000 - base times `from`: base + k is enough where k × k × a × n is at least that.
 #[derive(Clone, Copy)]
@@ -11,14 +13,14 @@ pub struct Formula {
 }
 
 impl Formula {
-    // class 1, 0.4 + 0.6 / √(A / 9): dwellings, offices and what lies beside them
+    // 0.4 + 0.6 / √(A / 9)
     pub const ROOMS: Formula = Formula {
         base: 4_000,
         bound: 32_400_000_000,
         from: 900,
     };
 
-    // class 2, 0.5 + 0.5 / √(A / 36): halls, service areas and what lies beside them
+    // 0.5 + 0.5 / √(A / 36)
     pub const HALLS: Formula = Formula {
         base: 5_000,
         bound: 90_000_000_000,
@@ -41,14 +43,14 @@ fn smallest(bound: u64, share: u64) -> u64
     root_above((bound - 1) / share)
 }
 
-// The factor by a formula, in range.
-pub(crate) fn reduced_factor(formula: Formula, area: u64, storeys: u64) -> u64
-    requires usable { Usable formula }
-    requires sized { Sized area storeys }
-    ensures factor { Reduced formula area storeys result }
-    ensures bound { result ≤ 10000 }
-{
-    let share = area.max(formula.from) * storeys;
-    let k = smallest(formula.bound, share);
-    formula.base + k
+impl Formula {
+    // The factor by this formula.
+    pub(crate) fn factor(self, extent: Extent) -> u64
+        requires { Usable self }
+        ensures factor { Reduced self extent.area extent.storeys result }
+        ensures bound { result ≤ 10000 }
+    {
+        let share = extent.area.max(self.from) * extent.storeys;
+        self.base + smallest(self.bound, share)
+    }
 }

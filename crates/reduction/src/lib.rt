@@ -2,61 +2,30 @@
 // A factor is in ten-thousandths, an area in hundredths of a square metre.
 #![tactic(auto)]
 
-ghost use Rattle.reduction.specs.Answer.{Answer, AnswerBy};
-ghost use Rattle.reduction.specs.Factor.{Usable, rooms, halls};
+ghost use Rattle.reduction.specs.Answer.{Answer};
 
-use formula::{Formula, reduced_factor};
+use class::Class;
+use extent::Extent;
 use refusals::Refusal;
 
+mod class;
+mod extent;
 mod formula;
-
-// The factor by a formula, for any area and number of storeys.
-fn reduced(formula: Formula, area: u64, storeys: u64) -> Result<u64, Refusal>
-    requires { Usable formula }
-    ensures { AnswerBy formula area storeys result }
-{
-    if area < 1 || area > 1_000_000 || storeys < 1 || storeys > 40 {
-        return Err(Refusal::Reduction);
-    }
-    Ok(reduced_factor(formula, area, storeys))
-}
-
-fn class_1(area: u64, storeys: u64) -> Result<u64, Refusal>
-    ensures { AnswerBy rooms area storeys result }
-{
-    reduced(Formula::ROOMS, area, storeys)
-}
-
-fn class_2(area: u64, storeys: u64) -> Result<u64, Refusal>
-    ensures { AnswerBy halls area storeys result }
-{
-    reduced(Formula::HALLS, area, storeys)
-}
 
 // The factor for a class, an area and a number of storeys. Class 0 is not reduced, whatever area and storeys are.
 pub fn factor(class: u64, area: u64, storeys: u64) -> Result<u64, Refusal>
     ensures { Answer class area storeys result }
 {
-    match class {
-        0 => Ok(10_000),
-        1 => class_1(area, storeys),
-        2 => class_2(area, storeys),
-        _ => Err(Refusal::Reduction),
+    let class = Class::try_from(class)?;
+    match class.formula() {
+        None => Ok(10_000),
+        Some(formula) => Ok(formula.factor(Extent::new(area, storeys)?)),
     }
 }
 
 #[cfg(test)]
 mod tests {
     use super::*;
-    use std::test::Fail;
-
-    fn refused(class: u64, area: u64, storeys: u64) -> Result<(), Fail> {
-        if factor(class, area, storeys) == Err(Refusal::Reduction) {
-            Ok(())
-        } else {
-            Err(Fail::new("no refusal"))
-        }
-    }
 
     #[test]
     fn figures(rt: HostRuntime) {
@@ -82,12 +51,16 @@ mod tests {
     }
 
     #[test]
-    fn outside_the_ranges() -> Result<(), Fail> {
-        refused(1, 0, 1)?;
-        refused(1, 1_000_001, 1)?;
-        refused(2, 1, 0)?;
-        refused(2, 1, 41)?;
-        refused(3, 1, 1)?;
-        refused(u64::MAX, 1, 1)
+    fn outside_the_ranges(rt: HostRuntime) {
+        for (class, area, storeys) in [
+            (1, 0, 1),
+            (1, 1_000_001, 1),
+            (2, 1, 0),
+            (2, 1, 41),
+            (3, 1, 1),
+            (u64::MAX, 1, 1),
+        ] {
+            assert_eq!(rt; factor(class, area, storeys), Err(Refusal::Reduction));
+        }
     }
 }

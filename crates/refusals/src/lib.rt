@@ -1,8 +1,10 @@
 // Why a call is refused. Each case has the number by which users know it.
 #![tactic(auto)]
 
-ghost use Rattle.std.specs.Prelude.{◌≡◌};
-ghost use Rattle.refusals.specs.Numbers.{number_of};
+ghost use Rattle.std.specs.Prelude.{◌≡◌, Some};
+ghost use Rattle.refusals.specs.Numbers.{number_of, refused_text};
+
+use std::fmt;
 
 #[derive(Clone, Copy, PartialEq, Eq, Debug)]
 pub enum Refusal {
@@ -38,6 +40,7 @@ pub enum Refusal {
 
 impl Refusal {
     // The number of this refusal.
+    // Kept: `refusal.number()` says at a call what `u8::from(refusal)` leaves out, and the enum holds the numbers either way.
     pub fn number(self) -> u8
         ensures { result ≡ number_of self }
     {
@@ -45,14 +48,30 @@ impl Refusal {
     }
 }
 
+impl fmt::Display for Refusal {
+    ghost output = { λ x. Some (refused_text x) };
+
+    fn fmt<W: fmt::Write>(&self, f: &mut fmt::Formatter<W>) -> fmt::Result {
+        write!(f, "REFUSED {}", self.number())
+    }
+}
+
 #[cfg(test)]
 mod tests {
     use super::*;
+    use std::test::Fail;
 
     #[test]
     fn numbers(rt: HostRuntime) {
         assert_eq!(rt; Refusal::RecordNumber.number(), 1);
         assert_eq!(rt; Refusal::Reduction.number(), 4);
         assert_eq!(rt; Refusal::ColumnValue.number(), 14);
+    }
+
+    #[test]
+    fn a_refusal_is_shown(rt: HostRuntime) -> Result<(), Fail> {
+        let text = Refusal::ColumnValue.to_string(rt.alloc())?;
+        assert_eq!(rt; text.as_str(), "REFUSED 14");
+        Ok(())
     }
 }

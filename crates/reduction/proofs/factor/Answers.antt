@@ -1,11 +1,11 @@
-use Rattle.reduction.proofs.Norms.{answer_0, answer_1, answer_2}
+use Rattle.std.proofs.Common.{sym, ◌∙◌}
+use Rattle.reduction.proofs.Norms.{whole, reduced}
 use Rattle.reduction.proofs.factor.Goals as goal
 
-pub returns-in-0 : goal.returns-in-0
-returns-in-0 c = answer_0 _ _ _ c.in-0.is
+pub returns-in-None : goal.returns-in-None
+returns-in-None c = whole c.in_ok-class.class _ _ _ c.in_ok-class.ensures (sym c.formula.ensures ∙ c.in-None.is)
 
-pub returns-in-1 : goal.returns-in-1
-returns-in-1 c = answer_1 _ _ _ c.class_1.result c.in-1.is c.class_1.ensures
-
-pub returns-in-2 : goal.returns-in-2
-returns-in-2 c = answer_2 _ _ _ c.class_2.result c.in-2.is c.class_2.ensures
+pub returns-in_ok-new-in-Some : goal.returns-in_ok-new-in-Some
+returns-in_ok-new-in-Some c =
+    reduced c.in_ok-class.class c.in-Some.formula c.in_ok-new-in-Some.field-0 _ _ _ c.factor.result c.in_ok-class.ensures
+    (sym c.formula.ensures ∙ c.in-Some.is) c.in_ok-new-in-Some.ensures c.factor.ensures.factor c.factor.ensures.bound
