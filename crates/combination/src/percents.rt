@@ -5,7 +5,7 @@ ghost use Rattle.combination.specs.Computing.{Asked, by_role};
 use norm::{Norm, SpecialNorm, Term};
 
 // The percentages of the three roles of a term.
-#[derive(Clone, Copy)]
+#[derive(Clone, Copy, PartialEq, Eq, Debug)]
 pub struct Percents {
     pub leading: u64,
     pub second: u64,
@@ -13,7 +13,7 @@ pub struct Percents {
 }
 
 // Those of both terms.
-#[derive(Clone, Copy)]
+#[derive(Clone, Copy, PartialEq, Eq, Debug)]
 pub struct Table {
     pub long: Percents,
     pub short: Percents,

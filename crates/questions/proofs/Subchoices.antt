@@ -14,7 +14,7 @@ use Rattle.questions.specs.PartChoices.{leads, seconds}
 use Rattle.questions.specs.PartChoices.{taken as takes, count as tally, Admissible as Sub}
 use Rattle.questions.specs.Parts.{part}
 use Rattle.questions.specs.Tables.{TakesAtMost}
-use Rattle.questions.specs.declared.choice.Percents.{Percents}
+use Rattle.combination.specs.declared.percents.Percents.{Percents}
 use Rattle.questions.proofs.Counts.{long_taken, long_leads, long_seconds, short_taken, short_leads, short_seconds, special_taken, special_leads, special_seconds, length_part, part_within}
 use Rattle.questions.proofs.Groupings.{apart_from}
 use Rattle.questions.proofs.Merges.{leads_most}

@@ -12,13 +12,13 @@ use Rattle.questions.proofs.groups.group_count.Goals.{then-wanted-i+then-not-don
 
 pub loop-i-init : goal.loop-i-init
 loop-i-init g c =
-    let items = items_of g.E.Effect.means full c.args.records.now in
+    let items = items_of g.E.Effect.means full c.args.loads.now.records.now in
     (bound_blank g.met.E.Effect.lawful items, closed_blank items c.args.wanted.now (replicate 32 false) none_done, λ k h w. absurd (omega arith), omega arith)
 
 pub loop-i-preserved : goal.loop-i-preserved
 loop-i-preserved g c =
-    let items = items_of g.E.Effect.means full c.args.records.now in
-    let same : length items ≡ length c.args.records.now = same_length g.E.Effect.means full c.args.records.now in
+    let items = items_of g.E.Effect.means full c.args.loads.now.records.now in
+    let same : length items ≡ length c.args.loads.now.records.now = same_length g.E.Effect.means full c.args.loads.now.records.now in
     let wanted = c.args.wanted.now in
     let inv = c.loop-i.invariant in
     let i = c.loop-i.i in
@@ -44,9 +44,9 @@ loop-i-preserved g c =
 
 pub returns : goal.returns
 returns g c =
-    let items = items_of g.E.Effect.means full c.args.records.now in
-    let same : length items ≡ length c.args.records.now = same_length g.E.Effect.means full c.args.records.now in
+    let items = items_of g.E.Effect.means full c.args.loads.now.records.now in
+    let same : length items ≡ length c.args.loads.now.records.now = same_length g.E.Effect.means full c.args.loads.now.records.now in
     record {
       bound = bound_covered items c.args.wanted.now c.loop-i.done c.loop-i.count (λ k h w. c.loop-i.invariant.2 k (omega (arith, c.loop-i-test.false)) w) c.loop-i.invariant.0;
-      few = omega (arith, c.requires, c.loop-i.invariant.3, c.loop-i.auto.i-end);
+      few = omega (arith, c.args.loads.now.kept.few, c.loop-i.invariant.3, c.loop-i.auto.i-end);
     }

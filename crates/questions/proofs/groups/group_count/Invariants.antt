@@ -6,7 +6,7 @@ use Rattle.questions.proofs.groups.group_count.Given as goal
 
 abbrev pub invariant-loop-i : goal.invariant-loop-i
 invariant-loop-i g l =
-    TakesAtMost (items_of g.E.Effect.means full l.records) l.done l.count
-    × Closed (items_of g.E.Effect.means full l.records) l.wanted l.done
+    TakesAtMost (items_of g.E.Effect.means full l.loads.records.now) l.done l.count
+    × Closed (items_of g.E.Effect.means full l.loads.records.now) l.wanted l.done
     × ((k : ℕ) → k < l.i → Marked l.wanted k → Marked l.done k)
     × (l.count ≤ l.i)

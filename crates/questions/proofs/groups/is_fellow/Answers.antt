@@ -5,9 +5,9 @@ use Rattle.questions.proofs.groups.is_fellow.Goals as goal
 
 pub returns : goal.returns
 returns g c p =
-    fellow_by_group (items_of g.E.Effect.means p c.args.records.now) c.args.wanted.now c.args.i c.args.j _ _
-    (group_shown g.E.Effect.means p c.args.records.now c.args.i c.index-records-i.result c.requires.first)
-    (group_shown g.E.Effect.means p c.args.records.now c.args.j c.index-records-j.result c.requires.second)
+    fellow_by_group (items_of g.E.Effect.means p c.args.loads.now.records.now) c.args.wanted.now c.args.i c.args.j _ _
+    (group_shown g.E.Effect.means p c.args.loads.now.records.now c.args.i c.index-loads-i.result c.requires.first)
+    (group_shown g.E.Effect.means p c.args.loads.now.records.now c.args.j c.index-loads-j.result c.requires.second)
     c.if-i-j.false
     c.if-not-wanted-j.false
     c.is_shared.result

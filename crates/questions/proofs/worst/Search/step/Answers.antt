@@ -1,14 +1,13 @@
 use Rattle.std.proofs.Common.{◌∙◌}
 use Rattle.questions.proofs.Loops.{at_most_100, covers_more}
-use Rattle.questions.proofs.worst.step.Goals as goal
+use Rattle.questions.proofs.worst.Search.step.Goals as goal
 
 pub returns : goal.returns
 returns g c =
-    let norm = g.S.Source.grants c.args.source.now in
+    let norm = g.M.Norm.percentages c.args.self.now.norm.now in
     let p = c.requires.prepared in
     record {
       prepared = record {
-        kept = p.kept;
         permanent = p.permanent;
         long_table = c.turn_to.ensures.tabled;
         short_table = c.turn_to-2.ensures.tabled;
@@ -19,7 +18,7 @@ returns g c =
         special_whole = p.special_whole;
         special_rows = p.special_rows;
       };
-      covers = λ one. covers_more g.E.Effect.means norm c.args.question c.args.records.now c.args.nl c.args.nt c.args.best c.pair-found.result c.larger.result (c.requires.covers one)
-          (c.pair-found.ensures norm (at_most_100 norm c.requires.ranged) one c.percents_for-of_long.ensures.agrees c.percents_for-of_short.ensures.agrees)
+      covers = λ one. covers_more g.E.Effect.means norm c.args.self.now.question c.args.self.now.loads.now.records.now c.args.numbers.long c.args.numbers.short c.args.best c.pair-found.result c.larger.result (c.requires.covers one)
+          (c.pair-found.ensures norm (at_most_100 norm (g.met.M.Norm.ranged c.args.self.now.norm.now)) one c.percents_for-of_long.ensures.agrees c.percents_for-of_short.ensures.agrees)
           c.larger.ensures;
     }
