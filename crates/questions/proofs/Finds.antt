@@ -41,7 +41,13 @@ module _ {V : Type 0} {e : Operations V} (laws : Laws e) (q : Question) (rs : Li
   ms : Marks rs Special tables.special.wanted
   ms = marks_of Special tables.special p.special_kind p.special_table
 
-  module _ (g : PercentTable) (wl : Whole g.long) (wt : Whole g.short) (n : Numbers) where
+  module _ (g : PercentTable) (by_long : tables.long.percents ≡ Some g.long) (by_short : tables.short.percents ≡ Some g.short) (n : Numbers) where
+    wl : Whole g.long
+    wl = (p.long_table.built g.long by_long).whole
+
+    wt : Whole g.short
+    wt = (p.short_table.built g.short by_short).whole
+
     pub no_long : Answers e (items_of e g.long rs) tables.long.wanted n.long None → PairBest e q rs g n None
     no_long h norm bound one al at = record {
       shown = tt;

@@ -12,6 +12,8 @@ use Rattle.combination.specs.Worst.{comes_to, Worst}
 use Rattle.combination.specs.declared.picks.Pick.{Pick}
 use Rattle.combination.specs.declared.questions.Question.{Question}
 use Rattle.questions.specs.Items.{full, items_of, Whole}
+use Rattle.questions.specs.Larger.{NoLess}
+use Rattle.questions.specs.Larger.{Tops as Held}
 use Rattle.questions.specs.PartChoices.{Marked, comes, chosen}
 use Rattle.questions.specs.Parts.{mask, best_factor, fixed_sum, granted, merged, Agrees}
 use Rattle.questions.specs.Promises.{AnswersSound, OneKind}
@@ -81,14 +83,11 @@ picks_of e rs c = joined e rs c.parts
 
 -- v is at most the candidate's effect
 abbrev pub Under : {V : Type 0} → Operations V → V → Option (Candidate V) → Type 0
-Under e v None = ⊥
-Under e v (Some c) = AtMost e v c.effect
+Under e v o = Held e (λ c. c.effect) (λ v. v) o v
 
 -- r is a or b, and no less than either
-pub record Larger {V : Type 0} (e : Operations V) (a b r : Option (Candidate V)) : Type 0 where
-  pub either : (r ≡ a) ⊎ (r ≡ b)
-  pub left : (v : V) → Under e v a → Under e v r
-  pub right : (v : V) → Under e v b → Under e v r
+abbrev pub Larger : {V : Type 0} → Operations V → Option (Candidate V) → Option (Candidate V) → Option (Candidate V) → Type 0
+Larger e a b r = NoLess e (λ c. c.effect) (λ v. v) a b r
 
 module _ {V : Type 0} (e : Operations V) (norm : Percentages) (q : Question) (rs : List (Record V)) where
   -- a candidate is an admissible choice and comes to its effect

@@ -5,6 +5,7 @@ mod choice;
 mod groups;
 mod join;
 mod known;
+mod larger;
 mod pair;
 mod part;
 mod percents;

@@ -1,14 +1,14 @@
 // The best candidate for one pair of numbers taken.
 ghost use Rattle.std.specs.Prelude.{◌≡◌, ◌≤◌, Some};
 ghost use Rattle.combination.specs.Choices.{specials as special_number};
-ghost use Rattle.questions.specs.Engine.{Larger, PairBest, Prepared, Room, four, part_total};
+ghost use Rattle.questions.specs.Engine.{PairBest, Prepared, Room, four, part_total};
 
 use crate::choice::PartChoice;
 use crate::known::Known;
 use crate::percents::Numbers;
 use crate::rated::{Rated, WHOLE, WeighedRecords};
 use combination::Question;
-use effect::{Effect, at_most};
+use effect::Effect;
 
 // A choice of each kind.
 #[derive(Clone, Copy)]
@@ -100,18 +100,4 @@ pub(crate) fn pair<E: Effect>(
     };
     let effect = together(tables.permanent, &by_long, &by_short, &whole, &parts);
     Some(Candidate { effect, parts })
-}
-
-// The larger of two candidates, where there are two; the first where their effects are equal.
-pub(crate) fn larger<E: Effect>(
-    a: Option<Candidate<E>>,
-    b: Option<Candidate<E>>,
-) -> Option<Candidate<E>>
-    ensures { Larger E.means a b result }
-{
-    match (&a, &b) {
-        (_, None) => a,
-        (Some(p), Some(q)) if at_most(q.effect, p.effect) => a,
-        _ => b,
-    }
 }

@@ -1,11 +1,12 @@
-// The larger of two part choices.
+// A part choice with one record more.
 ghost use Rattle.std.specs.Prelude.{◌≡◌, ◌<◌};
 ghost use Rattle.questions.specs.BestParts.{added, Better};
 ghost use Rattle.questions.specs.Items.{items_of};
 
 use crate::choice::PartChoice;
+use crate::larger::larger_by;
 use crate::rated::Rated;
-use effect::{Effect, at_most};
+use effect::Effect;
 use norm::Role;
 
 // The choice with record j added in a role.
@@ -19,18 +20,7 @@ fn with_record(part: Option<PartChoice>, j: usize, role: Role) -> Option<PartCho
 }
 
 impl<'a, E: Effect> Rated<'a, E> {
-    // The larger of two choices, where there are two; the first where they come to the same.
-    fn larger(&self, a: Option<PartChoice>, b: Option<PartChoice>) -> Option<PartChoice>
-        ensures { Better E.means (items_of E.means self.now.percents self.now.loads.now.records.now) a b result }
-    {
-        match (&a, &b) {
-            (_, None) => a,
-            (Some(p), Some(q)) if at_most(self.total(q), self.total(p)) => a,
-            _ => b,
-        }
-    }
-
-    // The larger of `kept` and of `part` with record j added in a role.
+    // The larger of `kept` and of `part` with record j added in a role; `kept` where they come to the same.
     pub(crate) fn improved(
         &self,
         kept: Option<PartChoice>,
@@ -41,6 +31,7 @@ impl<'a, E: Effect> Rated<'a, E> {
         requires { j < 32 }
         ensures { Better E.means (items_of E.means self.now.percents self.now.loads.now.records.now) kept (added j role part) result }
     {
-        self.larger(kept, with_record(part, j, role))
+        let added = with_record(part, j, role);
+        larger_by(|choice| self.total(choice), kept, added)
     }
 }

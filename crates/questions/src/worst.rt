@@ -6,7 +6,8 @@ ghost use Rattle.questions.specs.Promises.{OneKind};
 
 use crate::groups::group_count;
 use crate::known::Known;
-use crate::pair::{Candidate, Tables, larger, pair};
+use crate::larger::larger_by;
+use crate::pair::{Candidate, Tables, pair};
 use crate::percents::Numbers;
 use crate::permanent::permanent_sum;
 use crate::rated::{Rated, WHOLE, WeighedRecords};
@@ -74,7 +75,7 @@ impl<'a, E: Effect, M: Norm> Search<'a, E, M> {
             short: of_short,
         };
         let found = pair(self.question, loads, tables, granted, numbers);
-        larger(best, found)
+        larger_by(|candidate| candidate.effect, best, found)
     }
 
     // All numbers of short-term loads, up to `most`, beside `long` long-term ones.
