@@ -22,3 +22,4 @@ pub mod Finds
 pub mod Fours
 pub mod Loops
 pub mod Rules
+pub mod Threes

@@ -51,8 +51,9 @@ impl<'a, E: Effect> Rated<'a, E> {
         ensures { result ≡ comes E.means (items_of E.means self.now.percents self.now.loads.now.records.now) (chosen (items_of E.means self.now.percents self.now.loads.now.records.now) choice.now) }
     {
         let mut sum = E::zero();
-        for (k, load) in self.loads.records.iter().enumerate() {
-            let part = contribution(load, self.loads.weights[k], self.percents, choice.roles[k]);
+        let weighed = self.loads.records.iter().zip(&self.loads.weights);
+        for ((load, weight), role) in weighed.zip(&choice.roles) {
+            let part = contribution(load, *weight, self.percents, *role);
             sum = sum.sum(part);
         }
         sum
