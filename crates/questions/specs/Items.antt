@@ -1,7 +1,7 @@
 -- What a record contributes in each role, and the bounds within which sums are owed.
-use Rattle.std.specs.Prelude.{◌≡◌, ℕ, ◌*◌, ◌<◌, ◌≤◌, List, [], ◌∷◌, map, length, slice_index, slice_index_or}
-use Rattle.std.specs.List.{AllByRecursion}
-use Rattle.std.specs.Coded.{Coded-set, coded_ℕ, le_prop, Unit-prop, ×_prop}
+use Rattle.std.specs.Prelude.{◌≡◌, ℕ, ◌*◌, ◌<◌, ◌≤◌, List, map, length, slice_index, slice_index_or}
+use Rattle.std.specs.List.{AllByRecursion, AllByRecursion-prop}
+use Rattle.std.specs.Coded.{Coded-set, coded_ℕ, le_prop}
 use Rattle.effect.specs.Laws.{Operations}
 use Rattle.loads.specs.declared.kinds.Kind.{Kind}
 use Rattle.loads.specs.declared.kinds.Kind.TheVariants.{Permanent, LongTerm, ShortTerm, Special}
@@ -68,14 +68,10 @@ InRange-prop e r x y = λ i. record {
   reduction = Reduction-prop r.kind (factor r) x.reduction y.reduction i;
 }
 
-AllInRange-prop : {V : Type 0} (e : Operations V) (rs : List (Record V)) → IsProp (AllByRecursion (InRange e) rs)
-AllInRange-prop e [] = Unit-prop
-AllInRange-prop e (r ∷ rs) = ×_prop (InRange-prop e r) (AllInRange-prop e rs)
-
 pub Kept-prop : {V : Type 0} (e : Operations V) (rs : List (Record V)) → IsProp (Kept e rs)
 Kept-prop e rs x y = λ i. record {
   few = le_prop x.few y.few i;
-  in_range = AllInRange-prop e rs x.in_range y.in_range i;
+  in_range = AllByRecursion-prop (InRange e) (InRange-prop e) rs x.in_range y.in_range i;
 }
 
 -- the weights are those of the records

@@ -6,7 +6,7 @@ ghost use Rattle.questions.specs.PartChoices.{Marked};
 ghost use Rattle.questions.specs.Tables.{TableBest, Closed, Carried, blank_table};
 
 use crate::choice::PartChoice;
-use crate::groups::is_fellow;
+use crate::groups::Wanted;
 use crate::rated::Rated;
 use crate::row::Row;
 use effect::Effect;
@@ -57,6 +57,7 @@ impl Table {
         ensures limit { self.new.limit ≡ self.old.limit }
     {
         let end = self.groups.min(self.limit) + 1;
+        // Kept: a row is read and written beside the row before it in `old`, and its place is the number of records that it takes.
         for count in 1..end {
             let row = self.rows[count].stepped(&old.rows[count - 1], rated, j);
             self.rows[count] = row;
@@ -79,8 +80,13 @@ impl Table {
     {
         let old = *self;
         self.groups += 1;
+        let group = Wanted {
+            loads: rated.loads,
+            flags: wanted,
+        };
+        // Kept: the loop is over the places themselves, since `offer` is handed the place.
         for j in 0..rated.loads.records.len() {
-            if is_fellow(rated.loads, wanted, i, j) {
+            if group.is_fellow(i, j) {
                 self.offer(&old, rated, j);
             }
         }
@@ -95,6 +101,7 @@ impl Table {
         ensures only { (k : ℕ) → Marked result.done k → Marked wanted.now k }
     {
         let mut table = Table::blank(limit);
+        // Kept: `table.done` changes in the loop, at other places too, so no iterator over it can run beside.
         for i in 0..rated.loads.records.len() {
             if wanted[i] && !table.done[i] {
                 table.carry(rated, wanted, i);

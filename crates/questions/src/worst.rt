@@ -2,9 +2,11 @@
 ghost use Rattle.std.specs.Prelude.{◌+◌, ◌≤◌};
 ghost use Rattle.loads.specs.declared.kinds.Kind.TheVariants.{ShortTerm};
 ghost use Rattle.questions.specs.Engine.{Answered, Covers, Limits, Prepared, Since};
+ghost use Rattle.questions.specs.Items.{full, items_of};
 ghost use Rattle.questions.specs.Promises.{OneKind};
+ghost use Rattle.questions.specs.Tables.{TakesAtMost};
 
-use crate::groups::group_count;
+use crate::groups::Wanted;
 use crate::known::Known;
 use crate::larger::larger_by;
 use crate::pair::{Candidate, Tables, pair};
@@ -43,6 +45,18 @@ pub(crate) struct Search<'a, E: Effect, M> {
 }
 
 impl<'a, E: Effect, M: Norm> Search<'a, E, M> {
+    // The most records of a kind that any choice takes.
+    fn most_of(&self, known: &Known) -> usize
+        ensures bound { TakesAtMost (items_of E.Effect.means full self.now.loads.now.records.now) known.now.wanted result }
+        ensures few { result ≤ 32 }
+    {
+        let wanted = Wanted {
+            loads: self.loads,
+            flags: &known.wanted,
+        };
+        wanted.group_count()
+    }
+
     // One pair of numbers more.
     fn step(
         &self,
@@ -107,8 +121,8 @@ impl<'a, E: Effect, M: Norm> Search<'a, E, M> {
         ensures { OneKind self.now.loads.now.records.now → Answered E.Effect.means (M.Norm.percentages self.now.norm.now) self.now.question self.now.loads.now.records.now result }
     {
         let mut tables = tables_of(self.loads);
-        let longs = group_count(self.loads, &tables.long.wanted);
-        let shorts = group_count(self.loads, &tables.short.wanted);
+        let longs = self.most_of(&tables.long);
+        let shorts = self.most_of(&tables.short);
         let mut best = None;
         for long in (0..longs + 1).rev() {
             best = self.across(&mut tables, best, long, shorts);

@@ -11,7 +11,7 @@ loop-long-init g c =
     let rs = c.args.self.now.loads.now.records.now in
     let tables = c.tables_of-tables.result in (
       c.tables_of-tables.ensures,
-      λ one. covers_none e (g.M.Norm.percentages c.args.self.now.norm.now) c.args.self.now.question rs c.group_count-longs.result (long_limit e c.args.self.now.question rs tables.long.wanted c.group_count-longs.result c.group_count-longs.ensures.bound (ml g.met.E.Effect.lawful c.args.self.now.question rs c.args.self.now.loads.now.kept tables c.tables_of-tables.ensures)),
+      λ one. covers_none e (g.M.Norm.percentages c.args.self.now.norm.now) c.args.self.now.question rs c.most_of-longs.result (long_limit e c.args.self.now.question rs tables.long.wanted c.most_of-longs.result c.most_of-longs.ensures.bound (ml g.met.E.Effect.lawful c.args.self.now.question rs c.args.self.now.loads.now.kept tables c.tables_of-tables.ensures)),
     )
 
 pub across-best-requires : goal.across-best-requires
@@ -22,9 +22,9 @@ across-best-requires g c =
     let back : c.loop-long.long ≡ c.loop-long.long - 1 + 1 = omega (arith, c.loop-long-test.true) in
     record {
       prepared = c.loop-long.invariant.0;
-      longs = omega (arith, c.loop-long.auto.long, c.group_count-longs.ensures.few);
-      few = c.group_count-shorts.ensures.few;
-      shorts = short_limit e c.args.self.now.question rs tables.short.wanted c.group_count-shorts.result c.group_count-shorts.ensures.bound (mt g.met.E.Effect.lawful c.args.self.now.question rs c.args.self.now.loads.now.kept tables c.tables_of-tables.ensures);
+      longs = omega (arith, c.loop-long.auto.long, c.most_of-longs.ensures.few);
+      few = c.most_of-shorts.ensures.few;
+      shorts = short_limit e c.args.self.now.question rs tables.short.wanted c.most_of-shorts.result c.most_of-shorts.ensures.bound (mt g.met.E.Effect.lawful c.args.self.now.question rs c.args.self.now.loads.now.kept tables c.tables_of-tables.ensures);
       covers = λ one. subst (λ (n : ℕ). Covers e (g.M.Norm.percentages c.args.self.now.norm.now) c.args.self.now.question rs (Since n 0) c.loop-long.best) back (c.loop-long.invariant.1 one);
     }
 
