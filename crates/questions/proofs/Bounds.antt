@@ -1,12 +1,11 @@
 -- How many records a choice can take: one of each group at most.
-use Rattle.std.proofs.Common.{◌≡◌, ℕ, ◌+◌, ◌<◌, ◌≤◌, Bool, true, List, length, get_or, set, Option, refl, ⊎_elim, arith}
+use Rattle.std.proofs.Common.{◌≡◌, ℕ, ◌+◌, ◌<◌, ◌≤◌, Bool, true, List, length, get_or, set, Option, refl, ⊎_elim, arith, None}
 use Rattle.effect.specs.Laws.{Operations, Laws}
 use Rattle.questions.specs.BestParts.{Opens, BestFrom}
 use Rattle.questions.specs.Items.{Item}
 use Rattle.questions.specs.PartChoices.{Marked, taken, Light}
 use Rattle.questions.specs.Rows.{RowBest}
 use Rattle.questions.specs.Tables.{TakesAtMost, TableBest}
-use Rattle.questions.specs.declared.choice.Assignment.TheVariants.{Out}
 use Rattle.questions.specs.declared.choice.PartChoice.{PartChoice}
 use Rattle.questions.specs.declared.row.Row.{Row}
 use Rattle.questions.specs.declared.table.Table.{Table}
@@ -36,9 +35,9 @@ best_raised {items = items} t room best = record {
 pub bound_offered : {V : Type 0} {items : List (Item V)} {old done : List Bool} {j : ℕ} → Opens items old done j → (n : ℕ) → TakesAtMost items old n → TakesAtMost items done (n + 1) → TakesAtMost items (set done j true) (n + 1)
 bound_offered {V} {items} {old} {done} {j} opens n prior kept c l s ps f =
     ⊎_elim
-    (λ (out : get_or ps j Out ≡ Out). kept c l s ps (from_skipped opens f out))
-    (λ (t : taken (get_or ps j Out) ≡ 1). let g = from_struck opens (get_or ps j Out) t f refl in omega (arith, prior _ _ _ _ g.3, g.0))
-    (out_or_taken (get_or ps j Out))
+    (λ (out : get_or ps j None ≡ None). kept c l s ps (from_skipped opens f out))
+    (λ (t : taken (get_or ps j None) ≡ 1). let g = from_struck opens (get_or ps j None) t f refl in omega (arith, prior _ _ _ _ g.3, g.0))
+    (out_or_taken (get_or ps j None))
 
 -- a row of more records than there are groups stays
 module _ {V : Type 0} {n : Operations V} (laws : Laws n) {items : List (Item V)} (light : Light n items) {old done : List Bool} {j : ℕ} (opens : Opens items old done j) (m : ℕ) (bound : TakesAtMost items (set done j true) m) where

@@ -1,9 +1,8 @@
 -- How many records of a kind a choice takes and gives a role, by its part of that kind.
-use Rattle.std.proofs.Common.{◌≡◌, ℕ, zero, suc, ◌+◌, Bool, true, false, cond, ◌&&◌, eqb, List, [], ◌∷◌, length, get_or, refl, ap, ◌∙◌, ap₂, arith}
+use Rattle.std.proofs.Common.{◌≡◌, ℕ, zero, suc, ◌+◌, Bool, true, false, cond, ◌&&◌, eqb, List, [], ◌∷◌, length, get_or, refl, ap, ◌∙◌, ap₂, arith, None, Option}
 use Rattle.questions.specs.PartChoices.{leads, seconds, Marked}
 use Rattle.questions.specs.PartChoices.{taken as takes, count as tally}
-use Rattle.questions.specs.declared.choice.Assignment.{Assignment}
-use Rattle.questions.specs.declared.choice.Assignment.TheVariants.{Out}
+use Rattle.norm.specs.declared.roles.Role.{Role}
 use Rattle.loads.specs.declared.kinds.Kind.{Kind}
 use Rattle.loads.specs.declared.kinds.Kind.TheVariants.{LongTerm, ShortTerm, Special}
 use Rattle.loads.specs.declared.records.Record.{Record}
@@ -18,9 +17,7 @@ pub plain_taken : (p : Pick) → takes (plain p) ≡ cond (is_taken p) 1 0
 plain_taken pick.Upper = refl
 plain_taken pick.Lower = refl
 plain_taken pick.Out = refl
-plain_taken (pick.As norm_role.Leading) = refl
-plain_taken (pick.As norm_role.Second) = refl
-plain_taken (pick.As norm_role.Other) = refl
+plain_taken (pick.As r) = refl
 plain_taken pick.Taken = refl
 
 plain_leads : (p : Pick) → leads (plain p) ≡ cond (eqb (role p) 1) 1 0
@@ -45,40 +42,34 @@ pub lone_taken : (p : Pick) → takes (lone p) ≡ cond (is_taken p) 1 0
 lone_taken pick.Upper = refl
 lone_taken pick.Lower = refl
 lone_taken pick.Out = refl
-lone_taken (pick.As norm_role.Leading) = refl
-lone_taken (pick.As norm_role.Second) = refl
-lone_taken (pick.As norm_role.Other) = refl
+lone_taken (pick.As r) = refl
 lone_taken pick.Taken = refl
 
 lone_leads : (p : Pick) → leads (lone p) ≡ cond (is_taken p) 1 0
 lone_leads pick.Upper = refl
 lone_leads pick.Lower = refl
 lone_leads pick.Out = refl
-lone_leads (pick.As norm_role.Leading) = refl
-lone_leads (pick.As norm_role.Second) = refl
-lone_leads (pick.As norm_role.Other) = refl
+lone_leads (pick.As r) = refl
 lone_leads pick.Taken = refl
 
 lone_seconds : (p : Pick) → seconds (lone p) ≡ cond false 1 0
 lone_seconds pick.Upper = refl
 lone_seconds pick.Lower = refl
 lone_seconds pick.Out = refl
-lone_seconds (pick.As norm_role.Leading) = refl
-lone_seconds (pick.As norm_role.Second) = refl
-lone_seconds (pick.As norm_role.Other) = refl
+lone_seconds (pick.As r) = refl
 lone_seconds pick.Taken = refl
 
-head_count : (f : Assignment → ℕ) (t : Bool) (x : Assignment) (b : Bool) → f Out ≡ 0 → f x ≡ cond t 1 0 → f (cond b x Out) ≡ cond (b && t) 1 0
+head_count : (f : Option Role → ℕ) (t : Bool) (x : Option Role) (b : Bool) → f None ≡ 0 → f x ≡ cond t 1 0 → f (cond b x None) ≡ cond (b && t) 1 0
 head_count f t x true z h = h
 head_count f t x false z h = z
 
 -- a part takes only records of its kind
-cond_taken : (b : Bool) (x : Assignment) → takes (cond b x Out) ≡ 1 → b ≡ true
+cond_taken : (b : Bool) (x : Option Role) → takes (cond b x None) ≡ 1 → b ≡ true
 cond_taken true x h = refl
 cond_taken false x h = absurd (omega arith)
 
 module _ {V : Type 0} where
-  part_count : (f : Assignment → ℕ) (t : Pick → Bool) (k : Kind) → f Out ≡ 0 → ((p : Pick) → f (role_at k p) ≡ cond (t p) 1 0) → (rs : List (Record V)) (ps : List Pick) → tally f (part k rs ps) ≡ count (λ l. is_of_kind k l.0.kind && t l.1) (lines rs ps)
+  part_count : (f : Option Role → ℕ) (t : Pick → Bool) (k : Kind) → f None ≡ 0 → ((p : Pick) → f (role_at k p) ≡ cond (t p) 1 0) → (rs : List (Record V)) (ps : List Pick) → tally f (part k rs ps) ≡ count (λ l. is_of_kind k l.0.kind && t l.1) (lines rs ps)
   part_count f t k z h [] ps = refl
   part_count f t k z h (r ∷ rs) [] = refl
   part_count f t k z h (r ∷ rs) (p ∷ ps) = ap₂ ◌+◌ (head_count f (t p) (role_at k p) (is_of_kind k r.kind) z (h p)) (part_count f t k z h rs ps)
@@ -125,7 +116,7 @@ module _ {V : Type 0} where
   length_part k (r ∷ rs) [] h = absurd (omega arith)
   length_part k (r ∷ rs) (p ∷ ps) h = ap suc (length_part k rs ps (omega arith))
 
-  pub part_within : (k : Kind) (rs : List (Record V)) (ps : List Pick) (j : ℕ) → takes (get_or (part k rs ps) j Out) ≡ 1 → Marked (mask k rs) j
+  pub part_within : (k : Kind) (rs : List (Record V)) (ps : List Pick) (j : ℕ) → takes (get_or (part k rs ps) j None) ≡ 1 → Marked (mask k rs) j
   part_within k [] ps j h = absurd (omega arith)
   part_within k (r ∷ rs) [] j h = absurd (omega arith)
   part_within k (r ∷ rs) (p ∷ ps) zero h = cond_taken (is_of_kind k r.kind) (role_at k p) h

@@ -8,12 +8,11 @@ use Rattle.questions.specs.BestParts.{BestFrom}
 use Rattle.questions.specs.Tables.{Answers}
 use Rattle.questions.specs.declared.choice.PartChoice.{PartChoice}
 use Rattle.questions.specs.Items.{Item}
-use Rattle.questions.specs.declared.choice.Assignment.{Assignment}
-use Rattle.questions.specs.declared.choice.Assignment.TheVariants.{Out}
+use Rattle.norm.specs.declared.roles.Role.{Role}
 
 -- a pick that takes its record stands in the list
-pub taken_inside : (ps : List Assignment) (k : ℕ) → taken (get_or ps k Out) ≡ 1 → k < length ps
-taken_inside ps k t = ⊎_elim (λ h. h) (λ (h : length ps ≤ k). absurd (let z : taken (get_or ps k Out) ≡ 0 = ap taken (get_or_past ps k Out h) in omega arith)) (cases_lt k (length ps))
+pub taken_inside : (ps : List (Option Role)) (k : ℕ) → taken (get_or ps k None) ≡ 1 → k < length ps
+taken_inside ps k t = ⊎_elim (λ h. h) (λ (h : length ps ≤ k). absurd (let z : taken (get_or ps k None) ≡ 0 = ap taken (get_or_past ps k None h) in omega arith)) (cases_lt k (length ps))
 
 module _ {V : Type 0} (n : Operations V) {items : List (Item V)} (wanted : List Bool) {done : List Bool} (all : (k : ℕ) → k < length items → Marked wanted k → Marked done k) (only : (k : ℕ) → Marked done k → Marked wanted k) where
   answer : (k : ℕ) (o : Option PartChoice) → BestFrom n items done k (min 1 k) (min 1 (k - 1)) o → Answers n items wanted k o

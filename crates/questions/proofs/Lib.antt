@@ -7,6 +7,7 @@ pub mod Bounds
 pub mod Starts
 pub mod Groupmates
 pub mod Ends
+pub mod Largest
 pub mod Lights
 pub mod Readies
 pub mod Counts
@@ -21,3 +22,4 @@ pub mod Finds
 pub mod Fours
 pub mod Loops
 pub mod Rules
+pub mod Threes

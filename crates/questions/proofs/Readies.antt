@@ -7,8 +7,8 @@ use Rattle.std.specs.List.{AllByRecursion}
 use Rattle.effect.specs.Laws.{Operations, Laws}
 use Rattle.combination.specs.Worst.{factor}
 use Rattle.questions.specs.PartChoices.{Light, Small, group_of, group_at}
-use Rattle.questions.specs.Items.{share, item_of, items_of, weight_of, Reduction, InRange, Weighed, Whole, Ready}
-use Rattle.questions.specs.declared.choice.Percents.{Percents}
+use Rattle.questions.specs.Items.{share, item_of, items_of, weight_of, Reduction, InRange, Kept, Weighed, Whole}
+use Rattle.combination.specs.declared.percents.Percents.{Percents}
 use Rattle.loads.specs.declared.kinds.Kind.{Kind}
 use Rattle.loads.specs.declared.kinds.Kind.TheVariants.{Permanent, LongTerm, ShortTerm, Special}
 use Rattle.loads.specs.declared.records.Record.{Record}
@@ -50,8 +50,8 @@ module _ {V : Type 0} {e : Operations V} (laws : Laws e) where
   small_items s [] h w = tt
   small_items s (r ∷ rs) h w = (small_item s r h.0 w, small_items s rs h.1 w)
 
-  pub light_of : (s : Percents) (ws : List ℕ) (rs : List (Record V)) → Ready e s ws rs → Light e (items_of e s rs)
-  light_of s ws rs h = light_from_small laws most (items_of e s rs) (omega (arith, length-map rs (item_of e s), h.kept.few)) (omega arith) (small_items s rs h.kept.in_range h.whole)
+  pub light_of : (s : Percents) (rs : List (Record V)) → Kept e rs → Whole s → Light e (items_of e s rs)
+  light_of s rs kept whole = light_from_small laws most (items_of e s rs) (omega (arith, length-map rs (item_of e s), kept.few)) (omega arith) (small_items s rs kept.in_range whole)
 
 module _ {V : Type 0} (e : Operations V) (s : Percents) (rs : List (Record V)) where
   pub same_length : length (items_of e s rs) ≡ length rs

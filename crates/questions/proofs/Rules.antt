@@ -1,6 +1,7 @@
 -- What the rules of a record give of its weight.
 use Rattle.std.proofs.Common.{◌≡◌, ℕ, zero, suc, ◌+◌, ◌<◌, ◌≤◌, ◌≢◌, List, [], ◌∷◌, length, get_or, set, sym, refl, ap, ◌∙◌, subst, inl, inr, ⊎_elim, arith, length-set, get_or-set_other, get_or-set_same}
 use Rattle.std.proofs.lemmas.Bool.{cases_eq}
+use Rattle.std.proofs.lemmas.List.{get_or_default}
 use Rattle.std.specs.List.{AllByRecursion}
 use Rattle.effect.specs.Laws.{Operations}
 use Rattle.reduction.specs.Answer.{Given}
@@ -40,12 +41,6 @@ lower_most LongTerm upper lower h l = omega arith
 lower_most ShortTerm upper lower h l = omega arith
 lower_most Special upper lower h l = omega arith
 
--- inside a list the default does not count
-get_d_inside : {X : Type 0} (xs : List X) (i : ℕ) → i < length xs → (a b : X) → get_or xs i a ≡ get_or xs i b
-get_d_inside [] i h a b = absurd (omega arith)
-get_d_inside (x ∷ xs) zero h a b = refl
-get_d_inside (x ∷ xs) (suc i) h a b = get_d_inside xs i (omega arith) a b
-
 all_inside : {X : Type 0} (P : X → Type 0) (xs : List X) → ((i : ℕ) (d : X) → i < length xs → P (get_or xs i d)) → AllByRecursion P xs
 all_inside P [] h = tt
 all_inside P (x ∷ xs) h = (h 0 x (omega arith), all_inside P xs (λ i d l. h (suc i) d (omega arith)))
@@ -64,7 +59,7 @@ module _ {V : Type 0} (e : Operations V) (rs : List (Record V)) where
   weighing_more ws k w x few h is weight in_range m = record { size = length-set ws k w ∙ m.size; weighed = weighed; in_range = ranged }
     where
       read : (r : Record V) → x ≡ get_or rs k r
-      read r = is ∙ get_d_inside rs k h x r
+      read r = is ∙ get_or_default rs k x r h
 
       weighed : (j : ℕ) (r : Record V) → j < k + 1 → get_or (set ws k w) j 0 ≡ weight_of (get_or rs j r)
       weighed j r l = ⊎_elim

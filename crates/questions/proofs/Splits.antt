@@ -1,5 +1,5 @@
 -- What a choice comes to is the sum of its parts.
-use Rattle.std.proofs.Common.{◌≡◌, ℕ, ◌+◌, ◌*◌, ◌≤◌, Bool, true, false, cond, List, [], ◌∷◌, length, Ordering, Less, Equal, Greater, sym, refl, ap, ◌∙◌, subst, ap₂, inl, inr, arith}
+use Rattle.std.proofs.Common.{◌≡◌, ℕ, ◌+◌, ◌*◌, ◌≤◌, Bool, true, false, cond, List, [], ◌∷◌, length, Ordering, Less, Equal, Greater, sym, refl, ap, ◌∙◌, subst, ap₂, inl, inr, arith, None, Option}
 use Rattle.std.specs.List.{AllByRecursion}
 use Rattle.effect.specs.Laws.{Operations, Laws, limit}
 use Rattle.effect.specs.Sums.{total}
@@ -9,9 +9,8 @@ use Rattle.norm.specs.declared.terms.Term.TheVariants.{Long, Short}
 use Rattle.questions.specs.PartChoices.{worth, comes, Small}
 use Rattle.effect.specs.Laws.{AtMost}
 use Rattle.questions.specs.Items.{full, Item, item_of, items_of, InRange, Reduction, Whole}
-use Rattle.questions.specs.declared.choice.Percents.{Percents}
-use Rattle.questions.specs.declared.choice.Assignment.{Assignment}
-use Rattle.questions.specs.declared.choice.Assignment.TheVariants.{Out}
+use Rattle.combination.specs.declared.percents.Percents.{Percents}
+use Rattle.norm.specs.declared.roles.Role.{Role}
 use Rattle.loads.specs.declared.kinds.Kind.{Kind}
 use Rattle.loads.specs.declared.kinds.Kind.TheVariants.{Permanent, LongTerm, ShortTerm, Special}
 use Rattle.loads.specs.declared.records.Record.{Record}
@@ -69,7 +68,7 @@ module _ {V : Type 0} {e : Operations V} (laws : Laws e) where
   heads true x rest n hx hr few = omega (arith, laws.reach_plus x rest (omega arith))
   heads false x rest n hx hr few = omega (arith, laws.reach_plus x rest (omega arith))
 
-  worth_bound : (it : Item V) (b : Bool) (x : Assignment) → Small e most it → e.reach (worth e it (cond b x Out)) ≤ cond b most 0
+  worth_bound : (it : Item V) (b : Bool) (x : Option Role) → Small e most it → e.reach (worth e it (cond b x None)) ≤ cond b most 0
   worth_bound it true x h = small_worth laws most it x h
   worth_bound it false x h = omega (arith, laws.reach_nil)
 
@@ -77,7 +76,7 @@ module _ {V : Type 0} {e : Operations V} (laws : Laws e) where
   reach_part k s w [] ps h few = omega (arith, laws.reach_nil)
   reach_part k s w (r ∷ rs) [] h few = omega (arith, laws.reach_nil)
   reach_part k s w (r ∷ rs) (p ∷ ps) h few =
-      heads (is_of_kind k r.kind) (worth e (item_of e s r) (cond (is_of_kind k r.kind) (role_at k p) Out)) (comes e (items_of e s rs) (part k rs ps)) (kinds k rs)
+      heads (is_of_kind k r.kind) (worth e (item_of e s r) (cond (is_of_kind k r.kind) (role_at k p) None)) (comes e (items_of e s rs) (part k rs ps)) (kinds k rs)
       (worth_bound (item_of e s r) (is_of_kind k r.kind) (role_at k p) (small_item laws s r h.0 w))
       (reach_part k s w rs ps h.1 (omega arith)) few
 
@@ -117,13 +116,11 @@ module _ {V : Type 0} {e : Operations V} (laws : Laws e) where
     worth_lone pick.Upper r h = refl
     worth_lone pick.Lower r h = refl
     worth_lone pick.Out r h = refl
-    worth_lone (pick.As norm_role.Leading) r h = whole_share r h
-    worth_lone (pick.As norm_role.Second) r h = whole_share r h
-    worth_lone (pick.As norm_role.Other) r h = whole_share r h
+    worth_lone (pick.As i) r h = whole_share r h
     worth_lone pick.Taken r h = whole_share r h
 
     -- one record's contribution, put among the parts
-    step : (kd : Kind) (p : Pick) (r : Record V) → Among (picks_for kd) p → Reduction kd (factor r) → (x l t s : V) → e.reach (fixed e kd p r) + e.reach x + (e.reach (worth e (item_of e (granted norm Long nl nt) r) (cond (is_of_kind LongTerm kd) (plain p) Out)) + e.reach l) + (e.reach (worth e (item_of e (granted norm Short nl nt) r) (cond (is_of_kind ShortTerm kd) (plain p) Out)) + e.reach t) + (e.reach (worth e (item_of e full r) (cond (is_of_kind Special kd) (lone p) Out)) + e.reach s) ≤ limit → e.plus (contribution e norm nl nt kd p r) (four x l t s) ≡ four (e.plus (fixed e kd p r) x) (e.plus (worth e (item_of e (granted norm Long nl nt) r) (cond (is_of_kind LongTerm kd) (plain p) Out)) l) (e.plus (worth e (item_of e (granted norm Short nl nt) r) (cond (is_of_kind ShortTerm kd) (plain p) Out)) t) (e.plus (worth e (item_of e full r) (cond (is_of_kind Special kd) (lone p) Out)) s)
+    step : (kd : Kind) (p : Pick) (r : Record V) → Among (picks_for kd) p → Reduction kd (factor r) → (x l t s : V) → e.reach (fixed e kd p r) + e.reach x + (e.reach (worth e (item_of e (granted norm Long nl nt) r) (cond (is_of_kind LongTerm kd) (plain p) None)) + e.reach l) + (e.reach (worth e (item_of e (granted norm Short nl nt) r) (cond (is_of_kind ShortTerm kd) (plain p) None)) + e.reach t) + (e.reach (worth e (item_of e full r) (cond (is_of_kind Special kd) (lone p) None)) + e.reach s) ≤ limit → e.plus (contribution e norm nl nt kd p r) (four x l t s) ≡ four (e.plus (fixed e kd p r) x) (e.plus (worth e (item_of e (granted norm Long nl nt) r) (cond (is_of_kind LongTerm kd) (plain p) None)) l) (e.plus (worth e (item_of e (granted norm Short nl nt) r) (cond (is_of_kind ShortTerm kd) (plain p) None)) t) (e.plus (worth e (item_of e full r) (cond (is_of_kind Special kd) (lone p) None)) s)
     step kd p r f red x l t s h = go kd f red h
       where
         ts : e.reach t + e.reach s ≤ limit → e.reach (e.plus t s) ≤ e.reach t + e.reach s
@@ -132,7 +129,7 @@ module _ {V : Type 0} {e : Operations V} (laws : Laws e) where
         lts : e.reach l + e.reach t + e.reach s ≤ limit → e.reach (e.plus l (e.plus t s)) ≤ e.reach l + e.reach t + e.reach s
         lts b = omega (arith, ts (omega arith), laws.reach_plus l (e.plus t s) (omega (arith, ts (omega arith))))
 
-        go : (kd : Kind) → Among (picks_for kd) p → Reduction kd (factor r) → e.reach (fixed e kd p r) + e.reach x + (e.reach (worth e (item_of e (granted norm Long nl nt) r) (cond (is_of_kind LongTerm kd) (plain p) Out)) + e.reach l) + (e.reach (worth e (item_of e (granted norm Short nl nt) r) (cond (is_of_kind ShortTerm kd) (plain p) Out)) + e.reach t) + (e.reach (worth e (item_of e full r) (cond (is_of_kind Special kd) (lone p) Out)) + e.reach s) ≤ limit → e.plus (contribution e norm nl nt kd p r) (four x l t s) ≡ four (e.plus (fixed e kd p r) x) (e.plus (worth e (item_of e (granted norm Long nl nt) r) (cond (is_of_kind LongTerm kd) (plain p) Out)) l) (e.plus (worth e (item_of e (granted norm Short nl nt) r) (cond (is_of_kind ShortTerm kd) (plain p) Out)) t) (e.plus (worth e (item_of e full r) (cond (is_of_kind Special kd) (lone p) Out)) s)
+        go : (kd : Kind) → Among (picks_for kd) p → Reduction kd (factor r) → e.reach (fixed e kd p r) + e.reach x + (e.reach (worth e (item_of e (granted norm Long nl nt) r) (cond (is_of_kind LongTerm kd) (plain p) None)) + e.reach l) + (e.reach (worth e (item_of e (granted norm Short nl nt) r) (cond (is_of_kind ShortTerm kd) (plain p) None)) + e.reach t) + (e.reach (worth e (item_of e full r) (cond (is_of_kind Special kd) (lone p) None)) + e.reach s) ≤ limit → e.plus (contribution e norm nl nt kd p r) (four x l t s) ≡ four (e.plus (fixed e kd p r) x) (e.plus (worth e (item_of e (granted norm Long nl nt) r) (cond (is_of_kind LongTerm kd) (plain p) None)) l) (e.plus (worth e (item_of e (granted norm Short nl nt) r) (cond (is_of_kind ShortTerm kd) (plain p) None)) t) (e.plus (worth e (item_of e full r) (cond (is_of_kind Special kd) (lone p) None)) s)
         go Permanent f red h =
             let c : V = permanent e p r in
             let nl : e.plus e.nil l ≡ l = nil_plus laws l (omega arith) in
@@ -196,9 +193,9 @@ module _ {V : Type 0} {e : Operations V} (laws : Laws e) where
         let sum = kinds_sum (r ∷ rs) in
         let all = kinds_sum rs in
         let bx : e.reach (fixed e r.kind p r) ≤ cond (is_of_kind Permanent r.kind) most 0 = fixed_bound r.kind p r h.0 in
-        let bl : e.reach (worth e (item_of e gl r) (cond (is_of_kind LongTerm r.kind) (plain p) Out)) ≤ cond (is_of_kind LongTerm r.kind) most 0 = worth_bound (item_of e gl r) (is_of_kind LongTerm r.kind) (plain p) (small_item laws gl r h.0 (whole_granted Long)) in
-        let bt : e.reach (worth e (item_of e gt r) (cond (is_of_kind ShortTerm r.kind) (plain p) Out)) ≤ cond (is_of_kind ShortTerm r.kind) most 0 = worth_bound (item_of e gt r) (is_of_kind ShortTerm r.kind) (plain p) (small_item laws gt r h.0 (whole_granted Short)) in
-        let bs : e.reach (worth e (item_of e full r) (cond (is_of_kind Special r.kind) (lone p) Out)) ≤ cond (is_of_kind Special r.kind) most 0 = worth_bound (item_of e full r) (is_of_kind Special r.kind) (lone p) (small_item laws full r h.0 whole_full) in
+        let bl : e.reach (worth e (item_of e gl r) (cond (is_of_kind LongTerm r.kind) (plain p) None)) ≤ cond (is_of_kind LongTerm r.kind) most 0 = worth_bound (item_of e gl r) (is_of_kind LongTerm r.kind) (plain p) (small_item laws gl r h.0 (whole_granted Long)) in
+        let bt : e.reach (worth e (item_of e gt r) (cond (is_of_kind ShortTerm r.kind) (plain p) None)) ≤ cond (is_of_kind ShortTerm r.kind) most 0 = worth_bound (item_of e gt r) (is_of_kind ShortTerm r.kind) (plain p) (small_item laws gt r h.0 (whole_granted Short)) in
+        let bs : e.reach (worth e (item_of e full r) (cond (is_of_kind Special r.kind) (lone p) None)) ≤ cond (is_of_kind Special r.kind) most 0 = worth_bound (item_of e full r) (is_of_kind Special r.kind) (lone p) (small_item laws full r h.0 whole_full) in
         let rx : e.reach (fixed_sum e rs ps) ≤ kinds Permanent rs * most = reach_fixed rs ps h.1 (omega arith) in
         let rl : e.reach (comes e (items_of e gl rs) (part LongTerm rs ps)) ≤ kinds LongTerm rs * most = reach_part LongTerm gl (whole_granted Long) rs ps h.1 (omega arith) in
         let rt : e.reach (comes e (items_of e gt rs) (part ShortTerm rs ps)) ≤ kinds ShortTerm rs * most = reach_part ShortTerm gt (whole_granted Short) rs ps h.1 (omega arith) in

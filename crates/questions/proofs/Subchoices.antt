@@ -2,9 +2,10 @@
 use Rattle.std.proofs.Common.{◌≡◌, ℕ, ◌-◌, ◌<◌, ◌≤◌, min, Bool, List, sym, refl, ◌∙◌, ⊎_elim, arith}
 use Rattle.std.proofs.lemmas.Bool.{cases_lt}
 use Rattle.effect.specs.Laws.{Operations}
+use Rattle.loads.specs.declared.kinds.Kind.{Kind}
 use Rattle.loads.specs.declared.kinds.Kind.TheVariants.{LongTerm, ShortTerm, Special}
 use Rattle.loads.specs.declared.records.Record.{Record}
-use Rattle.combination.specs.Choices.{lines, taken, specials, Admissible}
+use Rattle.combination.specs.Choices.{lines, taken, in_role, specials, Roles, Admissible}
 use Rattle.combination.specs.declared.picks.Pick.{Pick}
 use Rattle.combination.specs.declared.questions.Question.{Question}
 use Rattle.combination.specs.declared.questions.Question.TheVariants.{Basic, WithSpecial}
@@ -14,7 +15,7 @@ use Rattle.questions.specs.PartChoices.{leads, seconds}
 use Rattle.questions.specs.PartChoices.{taken as takes, count as tally, Admissible as Sub}
 use Rattle.questions.specs.Parts.{part}
 use Rattle.questions.specs.Tables.{TakesAtMost}
-use Rattle.questions.specs.declared.choice.Percents.{Percents}
+use Rattle.combination.specs.declared.percents.Percents.{Percents}
 use Rattle.questions.proofs.Counts.{long_taken, long_leads, long_seconds, short_taken, short_leads, short_seconds, special_taken, special_leads, special_seconds, length_part, part_within}
 use Rattle.questions.proofs.Groupings.{apart_from}
 use Rattle.questions.proofs.Merges.{leads_most}
@@ -36,39 +37,26 @@ specials_next Basic = refl
 specials_next WithSpecial = refl
 
 module _ {V : Type 0} (e : Operations V) (q : Question) (rs : List (Record V)) (s : Percents) (wanted : List Bool) (n : ℕ) (qs : List Pick) (a : Admissible q rs qs) where
-  pub sub_long : Marks rs LongTerm wanted → taken LongTerm (lines rs qs) ≡ n → Sub (items_of e s rs) wanted n (part LongTerm rs qs)
-  sub_long marks h =
-      let t = long_taken rs qs in
-      let l = long_leads rs qs in
-      let r = long_seconds rs qs in
-      let m : tally leads (part LongTerm rs qs) ≤ tally takes (part LongTerm rs qs) = leads_most (part LongTerm rs qs) in
+  -- the part of a kind whose roles the choice gives
+  sub_roles : (k : Kind) → Roles k (lines rs qs) → tally takes (part k rs qs) ≡ taken k (lines rs qs) → tally leads (part k rs qs) ≡ in_role k 1 (lines rs qs) → tally seconds (part k rs qs) ≡ in_role k 2 (lines rs qs) → Marks rs k wanted → taken k (lines rs qs) ≡ n → Sub (items_of e s rs) wanted n (part k rs qs)
+  sub_roles k roles t l r marks h =
+      let m : tally leads (part k rs qs) ≤ tally takes (part k rs qs) = leads_most (part k rs qs) in
       record {
         valid = record {
-          parallel = length_part LongTerm rs qs a.parallel ∙ sym (same_length e s rs);
+          parallel = length_part k rs qs a.parallel ∙ sym (same_length e s rs);
           number = t ∙ h;
-          first = first_count n (tally leads (part LongTerm rs qs)) (omega arith) (λ z. l ∙ a.long_roles.leading (omega arith));
-          next = next_count n (tally seconds (part LongTerm rs qs)) (λ z. r ∙ a.long_roles.second (omega arith)) (λ z. r ∙ a.long_roles.no_second (omega arith));
-          apart = apart_from e LongTerm s rs qs a.groups;
+          first = first_count n (tally leads (part k rs qs)) (omega arith) (λ z. l ∙ roles.leading (omega arith));
+          next = next_count n (tally seconds (part k rs qs)) (λ z. r ∙ roles.second (omega arith)) (λ z. r ∙ roles.no_second (omega arith));
+          apart = apart_from e k s rs qs a.groups;
         };
-        within = λ k t. marks k ∙ part_within LongTerm rs qs k t;
+        within = λ j t. marks j ∙ part_within k rs qs j t;
       }
 
+  pub sub_long : Marks rs LongTerm wanted → taken LongTerm (lines rs qs) ≡ n → Sub (items_of e s rs) wanted n (part LongTerm rs qs)
+  sub_long = sub_roles LongTerm a.long_roles (long_taken rs qs) (long_leads rs qs) (long_seconds rs qs)
+
   pub sub_short : Marks rs ShortTerm wanted → taken ShortTerm (lines rs qs) ≡ n → Sub (items_of e s rs) wanted n (part ShortTerm rs qs)
-  sub_short marks h =
-      let t = short_taken rs qs in
-      let l = short_leads rs qs in
-      let r = short_seconds rs qs in
-      let m : tally leads (part ShortTerm rs qs) ≤ tally takes (part ShortTerm rs qs) = leads_most (part ShortTerm rs qs) in
-      record {
-        valid = record {
-          parallel = length_part ShortTerm rs qs a.parallel ∙ sym (same_length e s rs);
-          number = t ∙ h;
-          first = first_count n (tally leads (part ShortTerm rs qs)) (omega arith) (λ z. l ∙ a.short_roles.leading (omega arith));
-          next = next_count n (tally seconds (part ShortTerm rs qs)) (λ z. r ∙ a.short_roles.second (omega arith)) (λ z. r ∙ a.short_roles.no_second (omega arith));
-          apart = apart_from e ShortTerm s rs qs a.groups;
-        };
-        within = λ k t. marks k ∙ part_within ShortTerm rs qs k t;
-      }
+  sub_short = sub_roles ShortTerm a.short_roles (short_taken rs qs) (short_leads rs qs) (short_seconds rs qs)
 
 pub sub_special : {V : Type 0} (e : Operations V) (q : Question) (rs : List (Record V)) (wanted : List Bool) (qs : List Pick) → Admissible q rs qs → Marks rs Special wanted → Sub (items_of e full rs) wanted (specials q) (part Special rs qs)
 sub_special e q rs wanted qs a marks = record {

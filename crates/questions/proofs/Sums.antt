@@ -1,14 +1,15 @@
 -- What a change of one pick does to a choice's counts, reach-sum and effect.
-use Rattle.std.proofs.Common.{◌≡◌, ℕ, zero, suc, ◌+◌, ◌<◌, ◌≤◌, List, [], ◌∷◌, length, get_or, take, drop, set, sym, refl, ap, ◌∙◌, subst, arith}
-use Rattle.std.proofs.lemmas.List.{drop_more, length-take-le, get_or-take}
+use Rattle.std.proofs.Common.{◌≡◌, ℕ, zero, suc, ◌+◌, ◌<◌, ◌≤◌, List, [], ◌∷◌, length, get_or, take, set, sym, refl, ap, ap₂, ◌∙◌, subst, arith, None, Option}
+use Rattle.std.proofs.lemmas.List.{length-take-le, get_or-take}
 use Rattle.effect.specs.Laws.{Operations, Laws, limit}
-use Rattle.questions.specs.PartChoices.{count, worth, comes, reach_sum, Light}
+use Rattle.questions.specs.PartChoices.{count, worth, worths, comes, reach_sum, Light}
 use Rattle.questions.specs.Items.{Item}
-use Rattle.questions.specs.declared.choice.Assignment.{Assignment}
-use Rattle.questions.specs.declared.choice.Assignment.TheVariants.{Out}
+use Rattle.norm.specs.declared.roles.Role.{Role}
+use Rattle.effect.specs.Sums.{total}
 use Rattle.effect.proofs.Derived.{nil_plus}
+use Rattle.effect.proofs.Totals.{reach_total, total_step}
 
-pub count_set : (f : Assignment → ℕ) (ps : List Assignment) (j : ℕ) (r : Assignment) → j < length ps → count f (set ps j r) + f (get_or ps j Out) ≡ count f ps + f r
+pub count_set : (f : Option Role → ℕ) (ps : List (Option Role)) (j : ℕ) (r : Option Role) → j < length ps → count f (set ps j r) + f (get_or ps j None) ≡ count f ps + f r
 count_set f [] j r h = absurd (omega arith)
 count_set f (p ∷ ps) zero r h = omega arith
 count_set f (p ∷ ps) (suc j) r h = let less : j < length ps = omega arith in omega (arith, count_set f ps j r less)
@@ -20,7 +21,7 @@ item_at (x ∷ xs) zero h = (x, refl)
 item_at (x ∷ xs) (suc j) h = let less : j < length xs = omega arith in item_at xs j less
 
 module _ {V : Type 0} {n : Operations V} (laws : Laws n) where
-  pub reach_sum_set : (items : List (Item V)) (ps : List Assignment) (j : ℕ) (r : Assignment) (it : Item V) → length ps ≡ length items → j < length items → it ≡ get_or items j it → reach_sum n items (set ps j r) ≡ reach_sum n items (set ps j Out) + n.reach (worth n it r)
+  pub reach_sum_set : (items : List (Item V)) (ps : List (Option Role)) (j : ℕ) (r : Option Role) (it : Item V) → length ps ≡ length items → j < length items → it ≡ get_or items j it → reach_sum n items (set ps j r) ≡ reach_sum n items (set ps j None) + n.reach (worth n it r)
   reach_sum_set [] ps j r it e h read = absurd (omega arith)
   reach_sum_set (x ∷ items) [] j r it e h read = absurd (omega arith)
   reach_sum_set (x ∷ items) (p ∷ ps) zero r it e h read =
@@ -31,17 +32,11 @@ module _ {V : Type 0} {n : Operations V} (laws : Laws n) where
       let less : j < length items = omega arith in
       omega (arith, reach_sum_set items ps j r it same less read)
 
-  pub reach_comes : (items : List (Item V)) (ps : List Assignment) → reach_sum n items ps ≤ limit → n.reach (comes n items ps) ≤ reach_sum n items ps
-  reach_comes [] ps h = omega (arith, laws.reach_nil)
-  reach_comes (x ∷ items) [] h = omega (arith, laws.reach_nil)
-  reach_comes (x ∷ items) (p ∷ ps) h =
-      let less : reach_sum n items ps ≤ limit = omega arith in
-      let rest : n.reach (comes n items ps) ≤ reach_sum n items ps = reach_comes items ps less in
-      let both : n.reach (worth n x p) + n.reach (comes n items ps) ≤ limit = omega arith in
-      omega (arith, laws.reach_plus (worth n x p) (comes n items ps) both)
+  pub reach_comes : (items : List (Item V)) (ps : List (Option Role)) → reach_sum n items ps ≤ limit → n.reach (comes n items ps) ≤ reach_sum n items ps
+  reach_comes items ps = reach_total laws (worths n items ps)
 
   -- a record at place j in role r adds what it is worth
-  pub comes_set : (items : List (Item V)) (ps : List Assignment) (j : ℕ) (r : Assignment) (it : Item V) → length ps ≡ length items → j < length items → it ≡ get_or items j it → reach_sum n items (set ps j r) ≤ limit → comes n items (set ps j r) ≡ n.plus (comes n items (set ps j Out)) (worth n it r)
+  pub comes_set : (items : List (Item V)) (ps : List (Option Role)) (j : ℕ) (r : Option Role) (it : Item V) → length ps ≡ length items → j < length items → it ≡ get_or items j it → reach_sum n items (set ps j r) ≤ limit → comes n items (set ps j r) ≡ n.plus (comes n items (set ps j None)) (worth n it r)
   comes_set [] ps j r it e h read light = absurd (omega arith)
   comes_set (x ∷ items) [] j r it e h read light = absurd (omega arith)
   comes_set (x ∷ items) (p ∷ ps) zero r it e h read light =
@@ -56,47 +51,29 @@ module _ {V : Type 0} {n : Operations V} (laws : Laws n) where
       let same : length ps ≡ length items = omega arith in
       let less : j < length items = omega arith in
       let inner : reach_sum n items (set ps j r) ≤ limit = omega arith in
-      let split : reach_sum n items (set ps j r) ≡ reach_sum n items (set ps j Out) + n.reach (worth n it r) = reach_sum_set items ps j r it same less read in
-      let fits : reach_sum n items (set ps j Out) ≤ limit = omega arith in
-      let rest : n.reach (comes n items (set ps j Out)) ≤ reach_sum n items (set ps j Out) = reach_comes items (set ps j Out) fits in
-      let three : n.reach (worth n x p) + n.reach (comes n items (set ps j Out)) + n.reach (worth n it r) ≤ limit = omega arith in
+      let split : reach_sum n items (set ps j r) ≡ reach_sum n items (set ps j None) + n.reach (worth n it r) = reach_sum_set items ps j r it same less read in
+      let fits : reach_sum n items (set ps j None) ≤ limit = omega arith in
+      let rest : n.reach (comes n items (set ps j None)) ≤ reach_sum n items (set ps j None) = reach_comes items (set ps j None) fits in
+      let three : n.reach (worth n x p) + n.reach (comes n items (set ps j None)) + n.reach (worth n it r) ≤ limit = omega arith in
       ap (n.plus (worth n x p)) (comes_set items ps j r it same less read inner)
-      ∙ sym (laws.plus_assoc (worth n x p) (comes n items (set ps j Out)) (worth n it r) three)
+      ∙ sym (laws.plus_assoc (worth n x p) (comes n items (set ps j None)) (worth n it r) three)
 
-  reach_sum_nil : (items : List (Item V)) → reach_sum n items [] ≡ 0
-  reach_sum_nil [] = refl
-  reach_sum_nil (x ∷ items) = refl
+  pub length_worths : (items : List (Item V)) (ps : List (Option Role)) → length ps ≡ length items → length (worths n items ps) ≡ length items
+  length_worths [] ps e = refl
+  length_worths (x ∷ items) [] e = absurd (omega arith)
+  length_worths (x ∷ items) (p ∷ ps) e = ap suc (length_worths items ps (omega arith))
 
-  reach_sum_drop : (items : List (Item V)) (ps : List Assignment) (k : ℕ) → reach_sum n (drop k items) (drop k ps) ≤ reach_sum n items ps
-  reach_sum_drop items ps zero = omega arith
-  reach_sum_drop [] ps (suc k) = omega arith
-  reach_sum_drop (x ∷ items) [] (suc k) = omega (arith, reach_sum_nil (drop k items))
-  reach_sum_drop (x ∷ items) (p ∷ ps) (suc k) = omega (arith, reach_sum_drop items ps k)
+  -- what a record contributes that was read with its role
+  worths_read : (items : List (Item V)) (ps : List (Option Role)) (k : ℕ) (it : Item V) (p : Option Role) → length ps ≡ length items → k < length items → it ≡ get_or items k it → p ≡ get_or ps k None → worth n it p ≡ get_or (worths n items ps) k (worth n it p)
+  worths_read [] ps k it p e h read role = absurd (omega arith)
+  worths_read (x ∷ items) [] k it p e h read role = absurd (omega arith)
+  worths_read (x ∷ items) (q ∷ ps) zero it p e h read role = ap₂ (worth n) read role
+  worths_read (x ∷ items) (q ∷ ps) (suc k) it p e h read role = worths_read items ps k it p (omega arith) (omega arith) read role
 
-  -- what is left of a choice from place m on, by its first record
-  module _ (items : List (Item V)) (ps : List Assignment) (same : length ps ≡ length items) (m k : ℕ) (next : m + 1 ≡ k) (h : m < length items) (it : Item V) (read : it ≡ get_or items m it) where
-    items_drop : drop m items ≡ it ∷ drop k items
-    items_drop = drop_more items m it h ∙ ap (λ (x : Item V). x ∷ drop (m + 1) items) (sym read) ∙ ap (λ (i : ℕ). it ∷ drop i items) next
-
-    roles_drop : drop m ps ≡ get_or ps m Out ∷ drop k ps
-    roles_drop = drop_more ps m Out (omega arith) ∙ ap (λ (i : ℕ). get_or ps m Out ∷ drop i ps) next
-
-    pub comes_drop : comes n (drop m items) (drop m ps) ≡ n.plus (worth n it (get_or ps m Out)) (comes n (drop k items) (drop k ps))
-    comes_drop = ap (λ (xs : List (Item V)). comes n xs (drop m ps)) items_drop ∙ ap (comes n (it ∷ drop k items)) roles_drop
-
-    pub drop_fits : reach_sum n items ps ≤ limit → n.reach (worth n it (get_or ps m Out)) + n.reach (comes n (drop k items) (drop k ps)) ≤ limit
-    drop_fits light =
-        let split : reach_sum n (drop m items) (drop m ps) ≡ n.reach (worth n it (get_or ps m Out)) + reach_sum n (drop k items) (drop k ps) = ap (λ (xs : List (Item V)). reach_sum n xs (drop m ps)) items_drop ∙ ap (reach_sum n (it ∷ drop k items)) roles_drop in
-        let part : reach_sum n (drop m items) (drop m ps) ≤ limit = omega (arith, reach_sum_drop items ps m) in
-        let rest : reach_sum n (drop k items) (drop k ps) ≤ limit = omega arith in
-        omega (arith, reach_comes (drop k items) (drop k ps) rest)
-
-  -- one turn of the sum from the last record to the first: the sum is owed, and is what is left from place m on
-  pub sum_turn : (items : List (Item V)) (roles : List Assignment) → Light n items → length items ≤ length roles → (m k : ℕ) → m + 1 ≡ k → m < length items → (it : Item V) → it ≡ get_or items m it → (n.reach (worth n it (get_or roles m Out)) + n.reach (comes n (drop k items) (drop k (take (length items) roles))) ≤ limit) × (n.plus (worth n it (get_or roles m Out)) (comes n (drop k items) (drop k (take (length items) roles))) ≡ comes n (drop m items) (drop m (take (length items) roles)))
-  sum_turn items roles light long m k next h it read =
-      let ps : List Assignment = take (length items) roles in
+  -- one turn of the sum: `sum` of the contributions before place k, and `next` with that of place k
+  pub sum_turn : (items : List (Item V)) (roles : List (Option Role)) → Light n items → length items ≤ length roles → (k : ℕ) (it : Item V) (x sum next : V) → k < length items → it ≡ get_or items k it → x ≡ worth n it (get_or roles k None) → sum ≡ total n (take k (worths n items (take (length items) roles))) → (n.reach sum + n.reach x ≤ limit → next ≡ n.plus sum x) → next ≡ total n (take (k + 1) (worths n items (take (length items) roles)))
+  sum_turn items roles light long k it x sum next h read is so_far promised =
+      let ps : List (Option Role) = take (length items) roles in
       let same : length ps ≡ length items = length-take-le (length items) roles long in
-      let pick : get_or ps m Out ≡ get_or roles m Out = get_or-take (length items) roles m Out h in (
-        subst (λ (p : Assignment). n.reach (worth n it p) + n.reach (comes n (drop k items) (drop k ps)) ≤ limit) pick (drop_fits items ps same m k next h it read (light ps same)),
-        sym (subst (λ (p : Assignment). comes n (drop m items) (drop m ps) ≡ n.plus (worth n it p) (comes n (drop k items) (drop k ps))) pick (comes_drop items ps same m k next h it read)),
-      )
+      let found : worth n it (get_or roles k None) ≡ get_or (worths n items ps) k (worth n it (get_or roles k None)) = worths_read items ps k it (get_or roles k None) same h read (sym (get_or-take (length items) roles k None h)) in
+      total_step laws (worths n items ps) k x sum next (omega (arith, length_worths items ps same)) (subst (λ (y : V). y ≡ get_or (worths n items ps) k y) (sym is) found) (light ps same) so_far promised

@@ -5,12 +5,14 @@ use Rattle.effect.specs.Laws.{AtMost}
 use Rattle.questions.specs.PartChoices.{From, Marked, comes, group_at, chosen}
 use Rattle.questions.specs.declared.choice.PartChoice.{PartChoice}
 use Rattle.questions.specs.Items.{Item}
-use Rattle.questions.specs.declared.choice.Assignment.{Assignment}
+use Rattle.questions.specs.Larger.{NoLess}
+use Rattle.questions.specs.Larger.{Tops as Held}
+use Rattle.norm.specs.declared.roles.Role.{Role}
 
 -- record j added in role r
-abbrev pub added : ℕ → Assignment → Option PartChoice → Option PartChoice
+abbrev pub added : ℕ → Role → Option PartChoice → Option PartChoice
 added j r None = None
-added j r (Some p) = Some (record { roles = slice_set p.roles j r })
+added j r (Some p) = Some (record { roles = slice_set p.roles j (Some r) })
 
 abbrev pub Sound : {V : Type 0} → List (Item V) → List Bool → ℕ → ℕ → ℕ → Option PartChoice → Type 0
 Sound items done c l s None = Unit {0}
@@ -18,23 +20,21 @@ Sound items done c l s (Some p) = From items done c l s (chosen items p)
 
 module _ {V : Type 0} (n : Operations V) (items : List (Item V)) where
   -- qs comes to no more than ps: the order that a best choice is best in
-  abbrev pub Under : List Assignment → List Assignment → Type 0
+  abbrev pub Under : List (Option Role) → List (Option Role) → Type 0
   Under qs ps = AtMost n (comes n items qs) (comes n items ps)
 
-  abbrev pub Tops : Option PartChoice → List Assignment → Type 0
-  Tops None qs = ⊥
-  Tops (Some p) qs = Under qs (chosen items p)
+  -- qs comes to no more than the choice that is held
+  abbrev pub Tops : Option PartChoice → List (Option Role) → Type 0
+  Tops o qs = Held n (λ p. comes n items (chosen items p)) (comes n items) o qs
 
   -- the best choice from what is done; None where there is no choice
   pub record BestFrom (done : List Bool) (c l s : ℕ) (o : Option PartChoice) : Type 0 where
     pub sound : Sound items done c l s o
-    pub most : (qs : List Assignment) → From items done c l s qs → Tops o qs
+    pub most : (qs : List (Option Role)) → From items done c l s qs → Tops o qs
 
   -- r is a or b, and no less than either
-  pub record Better (a b r : Option PartChoice) : Type 0 where
-    pub either : (r ≡ a) ⊎ (r ≡ b)
-    pub left : (qs : List Assignment) → Tops a qs → Tops r qs
-    pub right : (qs : List Assignment) → Tops b qs → Tops r qs
+  abbrev pub Better : Option PartChoice → Option PartChoice → Option PartChoice → Type 0
+  Better a b r = NoLess n (λ p. comes n items (chosen items p)) (comes n items) a b r
 
 -- Record j can be added to each choice from `old`, and to no other choice from `done`.
 pub record Opens {V : Type 0} (items : List (Item V)) (old done : List Bool) (j : ℕ) : Type 0 where

@@ -11,16 +11,22 @@ use Rattle.combination.specs.Choices.{lines, taken, Admissible}
 use Rattle.combination.specs.Worst.{comes_to, Worst}
 use Rattle.combination.specs.declared.picks.Pick.{Pick}
 use Rattle.combination.specs.declared.questions.Question.{Question}
-use Rattle.questions.specs.Items.{full, items_of, Kept, Whole}
+use Rattle.questions.specs.Items.{full, items_of, Whole}
+use Rattle.questions.specs.Larger.{NoLess}
+use Rattle.questions.specs.Larger.{Tops as Held}
 use Rattle.questions.specs.PartChoices.{Marked, comes, chosen}
 use Rattle.questions.specs.Parts.{mask, best_factor, fixed_sum, granted, merged, Agrees}
-use Rattle.questions.specs.Promises.{OneKind}
+use Rattle.questions.specs.Promises.{AnswersSound, OneKind}
 use Rattle.questions.specs.Tables.{TableBest}
-use Rattle.questions.specs.declared.choice.Assignment.TheVariants.{Out}
 use Rattle.questions.specs.declared.choice.PartChoice.{PartChoice}
-use Rattle.questions.specs.declared.choice.Percents.{Percents}
+use Rattle.combination.specs.declared.percents.Percents.{Percents}
 use Rattle.questions.specs.declared.known.Known.{Known}
 use Rattle.questions.specs.declared.pair.Candidate.{Candidate}
+use Rattle.questions.specs.declared.pair.Parts.{Parts}
+use Rattle.questions.specs.declared.percents.Numbers.{Numbers}
+use Rattle.combination.specs.declared.percents.Table.{Table as PercentTable}
+use Rattle.combination.specs.declared.answers.Answer.{Answer}
+use Rattle.combination.specs.Sound.{Sound}
 use Rattle.questions.specs.declared.pair.Tables.{Tables}
 
 -- the flags are those of the records of a kind
@@ -45,7 +51,6 @@ fixed_best e rs = fixed_sum e rs (map (best_factor e) rs)
 
 -- what each question asks of its records and tables
 pub record Prepared {V : Type 0} (e : Operations V) (rs : List (Record V)) (t : Tables V) : Type 0 where
-  pub kept : Kept e rs
   pub permanent : t.permanent ≡ fixed_best e rs
   pub long_table : Tabled e rs t.long
   pub short_table : Tabled e rs t.short
@@ -60,35 +65,29 @@ pub record Prepared {V : Type 0} (e : Operations V) (rs : List (Record V)) (t : 
 abbrev pub part_total : {V : Type 0} → Operations V → List (Record V) → Percents → PartChoice → V
 part_total e rs s c = comes e (items_of e s rs) (chosen (items_of e s rs) c)
 
--- what three choices come to with the permanent loads stays within the limit
-abbrev pub Room : {V : Type 0} → Operations V → List (Record V) → Percents → Percents → V → PartChoice → PartChoice → PartChoice → Type 0
-Room e rs sl st fixed l t s = e.reach fixed + e.reach (part_total e rs sl l) + e.reach (part_total e rs st t) + e.reach (part_total e rs full s) ≤ limit
+-- the sum of the permanent loads and of three choices
+abbrev pub four : {V : Type 0} → Operations V → V → V → V → V → V
+four e fixed l t s = e.plus fixed (e.plus l (e.plus t s))
+
+-- it stays within the limit
+abbrev pub Room : {V : Type 0} → Operations V → V → V → V → V → Type 0
+Room e fixed l t s = e.reach fixed + e.reach l + e.reach t + e.reach s ≤ limit
 
 -- the picks of three choices and the permanent loads
-abbrev pub joined : {V : Type 0} → Operations V → List (Record V) → PartChoice → PartChoice → PartChoice → List Pick
-joined e rs l t s = merged e rs (λ k. get_or l.roles k Out) (λ k. get_or t.roles k Out) (λ k. get_or s.roles k Out)
-
--- a candidate of three choices, with what they come to together
-pub record Together {V : Type 0} (e : Operations V) (rs : List (Record V)) (sl st : Percents) (fixed : V) (l t s : PartChoice) (c : Candidate V) : Type 0 where
-  pub effect : c.effect ≡ e.plus fixed (e.plus (part_total e rs sl l) (e.plus (part_total e rs st t) (part_total e rs full s)))
-  pub long : c.long ≡ l
-  pub short : c.short ≡ t
-  pub special : c.special ≡ s
+abbrev pub joined : {V : Type 0} → Operations V → List (Record V) → Parts → List Pick
+joined e rs p = merged e rs (λ k. get_or p.long.roles k None) (λ k. get_or p.short.roles k None) (λ k. get_or p.special.roles k None)
 
 -- the picks of a candidate
 abbrev pub picks_of : {V : Type 0} → Operations V → List (Record V) → Candidate V → List Pick
-picks_of e rs c = joined e rs c.long c.short c.special
+picks_of e rs c = joined e rs c.parts
 
 -- v is at most the candidate's effect
 abbrev pub Under : {V : Type 0} → Operations V → V → Option (Candidate V) → Type 0
-Under e v None = ⊥
-Under e v (Some c) = AtMost e v c.effect
+Under e v o = Held e (λ c. c.effect) (λ v. v) o v
 
 -- r is a or b, and no less than either
-pub record Larger {V : Type 0} (e : Operations V) (a b r : Option (Candidate V)) : Type 0 where
-  pub either : (r ≡ a) ⊎ (r ≡ b)
-  pub left : (v : V) → Under e v a → Under e v r
-  pub right : (v : V) → Under e v b → Under e v r
+abbrev pub Larger : {V : Type 0} → Operations V → Option (Candidate V) → Option (Candidate V) → Option (Candidate V) → Type 0
+Larger e a b r = NoLess e (λ c. c.effect) (λ v. v) a b r
 
 module _ {V : Type 0} (e : Operations V) (norm : Percentages) (q : Question) (rs : List (Record V)) where
   -- a candidate is an admissible choice and comes to its effect
@@ -122,6 +121,11 @@ abbrev pub Since : ℕ → ℕ → ℕ → ℕ → Type 0
 Since nl nt x y = (nl < x) ⊎ ((x ≡ nl) × (nt ≤ y))
 
 -- the best candidate for a pair of numbers, under each norm that grants the percentages
-abbrev pub PairBest : {V : Type 0} → Operations V → Question → List (Record V) → Percents → Percents → ℕ → ℕ → Option (Candidate V) → Type 0
-PairBest e q rs sl st nl nt o =
-    (norm : Percentages) → ((t : Term) (i x y : ℕ) → norm t i x y ≤ 100) → OneKind rs → Agrees nl sl (granted norm Long nl nt) → Agrees nt st (granted norm Short nl nt) → Covers e norm q rs (Just nl nt) o
+abbrev pub PairBest : {V : Type 0} → Operations V → Question → List (Record V) → PercentTable → Numbers → Option (Candidate V) → Type 0
+PairBest e q rs s n o =
+    (norm : Percentages) → ((t : Term) (i x y : ℕ) → norm t i x y ≤ 100) → OneKind rs → Agrees n.long s.long (granted norm Long n.long n.short) → Agrees n.short s.short (granted norm Short n.long n.short) → Covers e norm q rs (Just n.long n.short) o
+
+-- the answer is the worst; None where the records break a rule, their groups are of two kinds or no choice is admissible
+abbrev pub Finds : {V : Type 0} → Operations V → Percentages → Question → List (Record V) → Option (Answer V) → Type 0
+Finds e norm q rs None = Sound e rs → OneKind rs → (picks : List Pick) → Admissible q rs picks → ⊥
+Finds e norm q rs (Some a) = AnswersSound e norm q rs a

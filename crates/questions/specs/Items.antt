@@ -1,12 +1,13 @@
 -- What a record contributes in each role, and the bounds within which sums are owed.
 use Rattle.std.specs.Prelude.{◌≡◌, ℕ, ◌*◌, ◌<◌, ◌≤◌, List, map, length, slice_index, slice_index_or}
-use Rattle.std.specs.List.{AllByRecursion}
+use Rattle.std.specs.List.{AllByRecursion, AllByRecursion-prop}
+use Rattle.std.specs.Coded.{Coded-set, coded_ℕ, le_prop}
 use Rattle.effect.specs.Laws.{Operations}
 use Rattle.loads.specs.declared.kinds.Kind.{Kind}
 use Rattle.loads.specs.declared.kinds.Kind.TheVariants.{Permanent, LongTerm, ShortTerm, Special}
 use Rattle.loads.specs.declared.records.Record.{Record}
 use Rattle.combination.specs.Worst.{factor}
-use Rattle.questions.specs.declared.choice.Percents.{Percents}
+use Rattle.combination.specs.declared.percents.Percents.{Percents}
 
 -- a record's group, with what the record contributes in each role
 pub record Item (V : Type 0) : Type 0 where
@@ -52,6 +53,27 @@ pub record Kept {V : Type 0} (e : Operations V) (rs : List (Record V)) : Type 0 
   pub few : length rs ≤ 32
   pub in_range : AllByRecursion (InRange e) rs
 
+-- a fact of records has one proof at most, as a type's invariant has to have
+Reduction-prop : (k : Kind) (f : ℕ) → IsProp (Reduction k f)
+Reduction-prop Permanent f = Coded-set coded_ℕ f 10000
+Reduction-prop LongTerm f = Coded-set coded_ℕ f 10000
+Reduction-prop ShortTerm f = le_prop
+Reduction-prop Special f = Coded-set coded_ℕ f 10000
+
+InRange-prop : {V : Type 0} (e : Operations V) (r : Record V) → IsProp (InRange e r)
+InRange-prop e r x y = λ i. record {
+  reach = le_prop x.reach y.reach i;
+  upper = le_prop x.upper y.upper i;
+  lower = le_prop x.lower y.lower i;
+  reduction = Reduction-prop r.kind (factor r) x.reduction y.reduction i;
+}
+
+pub Kept-prop : {V : Type 0} (e : Operations V) (rs : List (Record V)) → IsProp (Kept e rs)
+Kept-prop e rs x y = λ i. record {
+  few = le_prop x.few y.few i;
+  in_range = AllByRecursion-prop (InRange e) (InRange-prop e) rs x.in_range y.in_range i;
+}
+
 -- the weights are those of the records
 abbrev pub Weighed : {V : Type 0} → List ℕ → List (Record V) → Type 0
 Weighed {V} ws rs = (k : ℕ) (r : Record V) → k < length rs → slice_index ws k ≡ weight_of (slice_index_or rs k r)
@@ -62,11 +84,12 @@ pub record Whole (s : Percents) : Type 0 where
   pub second : s.second ≤ 100
   pub other : s.other ≤ 100
 
--- what every search asks of its percentages, weights and records
-pub record Ready {V : Type 0} (e : Operations V) (s : Percents) (ws : List ℕ) (rs : List (Record V)) : Type 0 where
-  pub kept : Kept e rs
-  pub weighed : Weighed ws rs
-  pub whole : Whole s
+pub Whole-prop : (s : Percents) → IsProp (Whole s)
+Whole-prop s x y = λ i. record {
+  leading = le_prop x.leading y.leading i;
+  second = le_prop x.second y.second i;
+  other = le_prop x.other y.other i;
+}
 
 -- every role at 100 percent
 abbrev pub full : Percents

@@ -1,4 +1,5 @@
 pub mod Items
+pub mod Larger
 pub mod PartChoices
 pub mod BestParts
 pub mod Rows

@@ -1,13 +1,13 @@
 -- A choice by its parts: the factors of the permanent loads, and the roles of each other kind.
-use Rattle.std.specs.Prelude.{◌≡◌, ℕ, suc, ◌≤◌, Bool, cond, List, [], ◌∷◌, map}
+use Rattle.std.specs.Prelude.{◌≡◌, ℕ, suc, ◌≤◌, Bool, cond, List, [], ◌∷◌, map, Some, None, Option}
 use Rattle.std.specs.declared.cmp.Ordering.TheVariants.{Less, Equal, Greater}
 use Rattle.std.specs.declared.cmp.Ordering.{Ordering}
 use Rattle.effect.specs.Laws.{Operations}
 use Rattle.norm.specs.Percentages.{Percentages}
 use Rattle.norm.specs.declared.terms.Term.{Term}
-use Rattle.questions.specs.declared.choice.Percents.{Percents}
-use Rattle.questions.specs.declared.choice.Assignment.{Assignment}
-use Rattle.questions.specs.declared.choice.Assignment.TheVariants.{Out, Leading, Second, Other}
+use Rattle.combination.specs.declared.percents.Percents.{Percents}
+use Rattle.norm.specs.declared.roles.Role.{Role}
+use Rattle.norm.specs.declared.roles.Role.TheVariants.{Leading, Other}
 use Rattle.loads.specs.declared.kinds.Kind.{Kind}
 use Rattle.loads.specs.declared.kinds.Kind.TheVariants.{Permanent, LongTerm, ShortTerm, Special}
 use Rattle.loads.specs.declared.records.Record.{Record}
@@ -15,56 +15,47 @@ use Rattle.combination.specs.Choices.{is_of_kind}
 use Rattle.combination.specs.Worst.{permanent}
 use Rattle.combination.specs.declared.picks.Pick.{Pick}
 use Rattle.combination.specs.declared.picks.Pick.TheVariants as pick
-use Rattle.norm.specs.declared.roles.Role.TheVariants as norm_role
 
 -- the role that a long-term or short-term load has
-abbrev pub plain : Pick → Assignment
-plain pick.Upper = Out
-plain pick.Lower = Out
-plain pick.Out = Out
-plain (pick.As norm_role.Leading) = Leading
-plain (pick.As norm_role.Second) = Second
-plain (pick.As norm_role.Other) = Other
-plain pick.Taken = Other
+abbrev pub plain : Pick → Option Role
+plain pick.Upper = None
+plain pick.Lower = None
+plain pick.Out = None
+plain (pick.As r) = Some r
+plain pick.Taken = Some Other
 
 -- a special load that is taken leads
-abbrev pub lone : Pick → Assignment
-lone pick.Upper = Out
-lone pick.Lower = Out
-lone pick.Out = Out
-lone (pick.As norm_role.Leading) = Leading
-lone (pick.As norm_role.Second) = Leading
-lone (pick.As norm_role.Other) = Leading
-lone pick.Taken = Leading
+abbrev pub lone : Pick → Option Role
+lone pick.Upper = None
+lone pick.Lower = None
+lone pick.Out = None
+lone (pick.As r) = Some Leading
+lone pick.Taken = Some Leading
 
-abbrev pub role_at : Kind → Pick → Assignment
-role_at Permanent p = Out
+abbrev pub role_at : Kind → Pick → Option Role
+role_at Permanent p = None
 role_at LongTerm p = plain p
 role_at ShortTerm p = plain p
 role_at Special p = lone p
 
 -- the pick that gives a role
-abbrev pub given : Assignment → Pick
-given Out = pick.Out
-given Leading = pick.As norm_role.Leading
-given Second = pick.As norm_role.Second
-given Other = pick.As norm_role.Other
+abbrev pub given : Option Role → Pick
+given None = pick.Out
+given (Some r) = pick.As r
 
-abbrev pub taken_as : Assignment → Pick
-taken_as Out = pick.Out
-taken_as Leading = pick.Taken
-taken_as Second = pick.Taken
-taken_as Other = pick.Taken
+abbrev pub taken_as : Option Role → Pick
+taken_as None = pick.Out
+taken_as (Some r) = pick.Taken
 
 -- which records are of a kind
 abbrev pub mask : {V : Type 0} → Kind → List (Record V) → List Bool
 mask k rs = map (λ r. is_of_kind k r.kind) rs
 
 -- what a choice does with the records of a kind; the others are out
-abbrev pub part : {V : Type 0} → Kind → List (Record V) → List Pick → List Assignment
+abbrev pub part : {V : Type 0} → Kind → List (Record V) → List Pick → List (Option Role)
 part k [] ps = []
 part k (r ∷ rs) [] = []
-part k (r ∷ rs) (p ∷ ps) = cond (is_of_kind k r.kind) (role_at k p) Out ∷ part k rs ps
+part k (r ∷ rs) (p ∷ ps) = cond (is_of_kind k r.kind) (role_at k p) None ∷ part k rs ps
 
 -- the percentages that a norm grants
 abbrev pub granted : Percentages → Term → ℕ → ℕ → Percents
@@ -99,13 +90,13 @@ module _ {V : Type 0} (e : Operations V) where
   best_factor r = by_order (e.order (permanent e pick.Lower r) (permanent e pick.Upper r))
 
   -- the pick of a record, by its kind
-  abbrev pub placed : Kind → Record V → Assignment → Assignment → Assignment → Pick
+  abbrev pub placed : Kind → Record V → Option Role → Option Role → Option Role → Pick
   placed Permanent r l t s = best_factor r
   placed LongTerm r l t s = given l
   placed ShortTerm r l t s = given t
   placed Special r l t s = taken_as s
 
   -- the choice that gives each record its factor, or the role that its kind's choice has for it
-  abbrev pub merged : List (Record V) → (ℕ → Assignment) → (ℕ → Assignment) → (ℕ → Assignment) → List Pick
+  abbrev pub merged : List (Record V) → (ℕ → Option Role) → (ℕ → Option Role) → (ℕ → Option Role) → List Pick
   merged [] l t s = []
   merged (r ∷ rs) l t s = placed r.kind r (l 0) (t 0) (s 0) ∷ merged rs (λ k. l (suc k)) (λ k. t (suc k)) (λ k. s (suc k))

@@ -4,7 +4,7 @@ use Rattle.effect.specs.Laws.{Operations}
 use Rattle.questions.specs.BestParts.{added, Better, BestFrom}
 use Rattle.questions.specs.declared.choice.PartChoice.{PartChoice}
 use Rattle.questions.specs.Items.{Item}
-use Rattle.questions.specs.declared.choice.Assignment.TheVariants.{Leading, Second, Other}
+use Rattle.norm.specs.declared.roles.Role.TheVariants.{Leading, Second, Other}
 use Rattle.questions.specs.declared.row.Row.{Row}
 
 module _ {V : Type 0} (n : Operations V) (items : List (Item V)) where

@@ -5,14 +5,13 @@ use Rattle.questions.specs.PartChoices.{From, group_at, Marked, chosen, Admissib
 use Rattle.questions.specs.Rows.{RowBest}
 use Rattle.questions.specs.declared.choice.PartChoice.{PartChoice}
 use Rattle.questions.specs.Items.{Item}
-use Rattle.questions.specs.declared.choice.Assignment.{Assignment}
-use Rattle.questions.specs.declared.choice.Assignment.TheVariants.{Out}
+use Rattle.norm.specs.declared.roles.Role.{Role}
 use Rattle.questions.specs.declared.row.Row.{Row}
 use Rattle.questions.specs.declared.table.Table.{Table}
 
 -- no choice of marked records takes more than n
 abbrev pub TakesAtMost : {V : Type 0} → List (Item V) → List Bool → ℕ → Type 0
-TakesAtMost items flags n = (c l s : ℕ) (ps : List Assignment) → From items flags c l s ps → c ≤ n
+TakesAtMost items flags n = (c l s : ℕ) (ps : List (Option Role)) → From items flags c l s ps → c ≤ n
 
 -- each row up to the limit holds the best choices from the records that are done
 pub record TableBest {V : Type 0} (n : Operations V) (items : List (Item V)) (t : Table) : Type 0 where
@@ -43,7 +42,7 @@ pub record Carried {V : Type 0} (items : List (Item V)) (wanted : List Bool) (i 
 
 -- the best choice that takes k of the wanted records, or None where there is no such choice
 abbrev pub Answers : {V : Type 0} → Operations V → List (Item V) → List Bool → ℕ → Option PartChoice → Type 0
-Answers n items wanted k None = (ps : List Assignment) → Admissible items wanted k ps → ⊥
+Answers n items wanted k None = (ps : List (Option Role)) → Admissible items wanted k ps → ⊥
 Answers n items wanted k (Some p) = Best n items wanted k (chosen items p)
 
 -- no record is done: the one choice takes none
@@ -51,7 +50,7 @@ abbrev pub empty_row : Row
 empty_row = record { neither = None; leading = None; second = None; both = None }
 
 abbrev pub first_row : Row
-first_row = record { neither = Some (record { roles = replicate 32 Out }); leading = None; second = None; both = None }
+first_row = record { neither = Some (record { roles = replicate 32 None }); leading = None; second = None; both = None }
 
 abbrev pub blank_table : ℕ → Table
 blank_table limit = record { rows = first_row ∷ replicate 32 empty_row; done = replicate 32 false; groups = 0; limit = limit }

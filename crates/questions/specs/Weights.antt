@@ -1,13 +1,12 @@
 -- The weights of records, where sums of them are owed.
-use Rattle.std.specs.Prelude.{◌≡◌, ℕ, List, Some, None, Option}
+use Rattle.std.specs.Prelude.{◌≡◌, ℕ, Some, None, Option}
 use Rattle.effect.specs.Laws.{Operations}
 use Rattle.loads.specs.Rules.{ReductionIn, Ruled}
 use Rattle.loads.specs.declared.kinds.Kind.{Kind}
 use Rattle.loads.specs.declared.kinds.Kind.TheVariants.{Permanent, LongTerm, ShortTerm, Special}
 use Rattle.loads.specs.declared.records.Record.{Record}
-use Rattle.combination.specs.Sound.{Sound}
 use Rattle.combination.specs.Worst.{factor}
-use Rattle.questions.specs.Items.{weight_of, Reduction, InRange, Kept, Weighed}
+use Rattle.questions.specs.Items.{weight_of, Reduction, InRange}
 
 -- a factor that the kind allows: only a short-term load is reduced
 abbrev pub Allowed : Kind → ℕ → Type 0
@@ -25,8 +24,3 @@ Reduces r (Some f) = (f ≡ factor r) × Reduction r.kind (factor r)
 abbrev pub Weighs : {V : Type 0} → Operations V → Record V → Option ℕ → Type 0
 Weighs e r None = Ruled e r → ⊥
 Weighs e r (Some w) = (w ≡ weight_of r) × InRange e r
-
--- the weights of all records, or they break a rule
-abbrev pub WeighsAll : {V : Type 0} → Operations V → List (Record V) → Option (List ℕ) → Type 0
-WeighsAll e rs None = Sound e rs → ⊥
-WeighsAll e rs (Some ws) = Kept e rs × Weighed ws rs

@@ -1,42 +1,41 @@
 // Choices of each kind and the permanent loads, put together.
 ghost use Rattle.std.specs.Prelude.{◌≡◌, length, take};
 ghost use Rattle.questions.specs.Engine.{joined};
-ghost use Rattle.questions.specs.Items.{InRange, Kept};
+ghost use Rattle.questions.specs.Items.{InRange};
 ghost use Rattle.questions.specs.Parts.{given as given_pick, placed, taken_as};
 
-use crate::choice::{Assignment, PartChoice};
+use crate::pair::Parts;
 use crate::permanent::factor;
+use crate::rated::WeighedRecords;
 use combination::Pick;
 use effect::Effect;
 use loads::{Kind, Record};
 use norm::Role;
 
-fn pick_for(role: Assignment) -> Pick
+fn pick_for(role: Option<Role>) -> Pick
     ensures { result ≡ given_pick role }
 {
     match role {
-        Assignment::Out => Pick::Out,
-        Assignment::Leading => Pick::As(Role::Leading),
-        Assignment::Second => Pick::As(Role::Second),
-        Assignment::Other => Pick::As(Role::Other),
+        None => Pick::Out,
+        Some(role) => Pick::As(role),
     }
 }
 
-fn taken_as(role: Assignment) -> Pick
+fn taken_as(role: Option<Role>) -> Pick
     ensures { result ≡ taken_as role }
 {
     match role {
-        Assignment::Out => Pick::Out,
-        _ => Pick::Taken,
+        None => Pick::Out,
+        Some(_) => Pick::Taken,
     }
 }
 
 // The pick of a record, by its kind.
 fn place<E: Effect>(
     load: &Record<E>,
-    long: Assignment,
-    short: Assignment,
-    special: Assignment,
+    long: Option<Role>,
+    short: Option<Role>,
+    special: Option<Role>,
 ) -> Pick
     requires { InRange E.means load.now }
     ensures { result ≡ placed E.means load.now.kind load.now long short special }
@@ -50,18 +49,17 @@ fn place<E: Effect>(
 }
 
 // The picks of three choices and the permanent loads.
-pub(crate) fn join<E: Effect>(
-    records: &[Record<E>],
-    long: &PartChoice,
-    short: &PartChoice,
-    special: &PartChoice,
-) -> [Pick; 32]
-    requires { Kept E.means records.now }
-    ensures { take (length records.now) result ≡ joined E.means records.now long.now short.now special.now }
+pub(crate) fn join<E: Effect>(loads: &WeighedRecords<E>, parts: &Parts) -> [Pick; 32]
+    ensures { take (length loads.now.records.now) result ≡ joined E.means loads.now.records.now parts.now }
 {
     let mut picks = [Pick::Out; 32];
-    for k in 0..records.len() {
-        picks[k] = place(&records[k], long.roles[k], short.roles[k], special.roles[k]);
+    for (k, load) in loads.records.iter().enumerate() {
+        picks[k] = place(
+            load,
+            parts.long.roles[k],
+            parts.short.roles[k],
+            parts.special.roles[k],
+        );
     }
     picks
 }

@@ -1,15 +1,22 @@
 // The best candidate for one pair of numbers taken.
 ghost use Rattle.std.specs.Prelude.{◌≡◌, ◌≤◌, Some};
 ghost use Rattle.combination.specs.Choices.{specials as special_number};
-ghost use Rattle.questions.specs.Engine.{Larger, PairBest, Prepared, Room, Together};
-ghost use Rattle.questions.specs.Items.{Ready, Weighed};
+ghost use Rattle.questions.specs.Engine.{PairBest, Prepared, Room, four, part_total};
 
-use crate::choice::{PartChoice, Percents, total};
+use crate::choice::PartChoice;
 use crate::known::Known;
+use crate::percents::Numbers;
+use crate::rated::{Rated, WHOLE, WeighedRecords};
 use combination::Question;
 use effect::Effect;
-use loads::Record;
-use std::cmp::Ordering;
+
+// A choice of each kind.
+#[derive(Clone, Copy)]
+pub(crate) struct Parts {
+    pub long: PartChoice,
+    pub short: PartChoice,
+    pub special: PartChoice,
+}
 
 // What is known of the kinds.
 #[derive(Clone, Copy)]
@@ -25,16 +32,7 @@ pub(crate) struct Tables<E> {
 #[derive(Clone, Copy)]
 pub(crate) struct Candidate<E> {
     pub effect: E,
-    pub long: PartChoice,
-    pub short: PartChoice,
-    pub special: PartChoice,
-}
-
-// The percentages for a pair of numbers.
-#[derive(Clone, Copy)]
-pub(crate) struct Granted {
-    pub long: Percents,
-    pub short: Percents,
+    pub parts: Parts,
 }
 
 // How many special loads a question takes.
@@ -48,81 +46,58 @@ fn specials(question: Question) -> usize
     }
 }
 
-// Three choices, with what they come to together with the permanent loads.
+// What choices of each kind come to together with the permanent loads.
 fn together<E: Effect>(
-    records: &[Record<E>],
-    weights: &[u64; 32],
-    granted: Granted,
     permanent: E,
-    long: &PartChoice,
-    short: &PartChoice,
-    special: &PartChoice,
-) -> Candidate<E>
-    requires by_long { Ready E.means granted.long weights.now records.now }
-    requires by_short { Ready E.means granted.short weights.now records.now }
-    requires room { Room E.means records.now granted.long granted.short permanent long.now short.now special.now }
-    ensures { Together E.means records.now granted.long granted.short permanent long.now short.now special.now result }
+    long: &Rated<E>,
+    short: &Rated<E>,
+    special: &Rated<E>,
+    parts: &Parts,
+) -> E
+    requires { Room E.means permanent (part_total E.means long.now.loads.now.records.now long.now.percents parts.now.long) (part_total E.means short.now.loads.now.records.now short.now.percents parts.now.short) (part_total E.means special.now.loads.now.records.now special.now.percents parts.now.special) }
+    ensures { result ≡ four E.means permanent (part_total E.means long.now.loads.now.records.now long.now.percents parts.now.long) (part_total E.means short.now.loads.now.records.now short.now.percents parts.now.short) (part_total E.means special.now.loads.now.records.now special.now.percents parts.now.special) }
 {
-    let whole = Percents {
-        leading: 100,
-        second: 100,
-        other: 100,
-    };
-    let of_special = total(records, weights, whole, special);
-    let temporary = total(records, weights, granted.short, short).sum(of_special);
-    let taken = total(records, weights, granted.long, long).sum(temporary);
-    Candidate {
-        effect: permanent.sum(taken),
-        long: *long,
-        short: *short,
-        special: *special,
-    }
+    let of_special = special.total(&parts.special);
+    let temporary = short.total(&parts.short).sum(of_special);
+    let taken = long.total(&parts.long).sum(temporary);
+    permanent.sum(taken)
 }
 
-// The best candidate among the choices that take nl long-term and nt short-term loads.
+// The best candidate among the choices that take these numbers of long-term and short-term loads.
 pub(crate) fn pair<E: Effect>(
     question: Question,
-    records: &[Record<E>],
-    weights: &[u64; 32],
+    loads: &WeighedRecords<E>,
     tables: &Tables<E>,
-    granted: Granted,
-    nl: usize,
-    nt: usize,
+    granted: combination::Table,
+    numbers: Numbers,
 ) -> Option<Candidate<E>>
-    requires prepared { Prepared E.means records.now tables.now }
-    requires weighed { Weighed weights.now records.now }
+    requires prepared { Prepared E.means loads.now.records.now tables.now }
     requires by_long { tables.now.long.percents ≡ Some granted.long }
     requires by_short { tables.now.short.percents ≡ Some granted.short }
-    requires longs { nl ≤ tables.now.long.table.limit }
-    requires shorts { nt ≤ tables.now.short.table.limit }
-    ensures { PairBest E.means question records.now granted.long granted.short nl nt result }
+    requires longs { numbers.long ≤ tables.now.long.table.limit }
+    requires shorts { numbers.short ≤ tables.now.short.table.limit }
+    ensures { PairBest E.means question loads.now.records.now granted numbers result }
 {
-    let whole = Percents {
-        leading: 100,
-        second: 100,
-        other: 100,
+    let by_long = Rated {
+        loads,
+        percents: granted.long,
     };
-    let l = tables.long.best(records, granted.long, nl)?;
-    let t = tables.short.best(records, granted.short, nt)?;
-    let s = tables.special.best(records, whole, specials(question))?;
-    let fixed = tables.permanent;
-    Some(together(records, weights, granted, fixed, &l, &t, &s))
-}
-
-// The larger of two candidates, where there are two.
-pub(crate) fn larger<E: Effect>(
-    a: Option<Candidate<E>>,
-    b: Option<Candidate<E>>,
-) -> Option<Candidate<E>>
-    ensures { Larger E.means a b result }
-{
-    match (a, b) {
-        (None, _) => b,
-        (_, None) => a,
-        (Some(p), Some(q)) => match p.effect.compare(q.effect) {
-            Ordering::Less => b,
-            Ordering::Equal => a,
-            Ordering::Greater => a,
-        },
-    }
+    let by_short = Rated {
+        loads,
+        percents: granted.short,
+    };
+    let whole = Rated {
+        loads,
+        percents: WHOLE,
+    };
+    let long = tables.long.best(&by_long, numbers.long)?;
+    let short = tables.short.best(&by_short, numbers.short)?;
+    let special = tables.special.best(&whole, specials(question))?;
+    let parts = Parts {
+        long,
+        short,
+        special,
+    };
+    let effect = together(tables.permanent, &by_long, &by_short, &whole, &parts);
+    Some(Candidate { effect, parts })
 }

@@ -3,9 +3,10 @@ ghost use Rattle.std.specs.Prelude.{◌≡◌, if◌then◌else◌};
 ghost use Rattle.combination.specs.Choices.{is_lower};
 ghost use Rattle.combination.specs.Worst.{permanent as at_factor};
 ghost use Rattle.questions.specs.Engine.{fixed_best};
-ghost use Rattle.questions.specs.Items.{InRange, Kept};
+ghost use Rattle.questions.specs.Items.{InRange};
 ghost use Rattle.questions.specs.Parts.{best_factor, fixed as part_of};
 
+use crate::rated::WeighedRecords;
 use combination::Pick;
 use effect::Effect;
 use loads::{Kind, Record};
@@ -14,10 +15,7 @@ use std::cmp::Ordering;
 fn chosen(pick: Pick, lower: u64, upper: u64) -> u64
     ensures { result ≡ (if is_lower pick then lower else upper) }
 {
-    match pick {
-        Pick::Lower => lower,
-        _ => upper,
-    }
+    if pick.is_lower() { lower } else { upper }
 }
 
 // A permanent load at the factor of a pick.
@@ -35,8 +33,7 @@ pub(crate) fn factor<E: Effect>(load: &Record<E>) -> Pick
     ensures { result ≡ best_factor E.means load.now }
 {
     match at_factor(load, Pick::Lower).compare(at_factor(load, Pick::Upper)) {
-        Ordering::Less => Pick::Upper,
-        Ordering::Equal => Pick::Upper,
+        Ordering::Less | Ordering::Equal => Pick::Upper,
         Ordering::Greater => Pick::Lower,
     }
 }
@@ -48,20 +45,17 @@ fn permanent_part<E: Effect>(load: &Record<E>) -> E
 {
     match load.kind {
         Kind::Permanent => at_factor(load, factor(load)),
-        Kind::LongTerm => E::zero(),
-        Kind::ShortTerm => E::zero(),
-        Kind::Special => E::zero(),
+        Kind::LongTerm | Kind::ShortTerm | Kind::Special => E::zero(),
     }
 }
 
 // The sum of the permanent loads.
-pub(crate) fn permanent_sum<E: Effect>(records: &[Record<E>]) -> E
-    requires { Kept E.means records.now }
-    ensures { result ≡ fixed_best E.means records.now }
+pub(crate) fn permanent_sum<E: Effect>(loads: &WeighedRecords<E>) -> E
+    ensures { result ≡ fixed_best E.means loads.now.records.now }
 {
     let mut sum = E::zero();
-    for k in (0..records.len()).rev() {
-        sum = permanent_part(&records[k]).sum(sum);
+    for load in loads.records {
+        sum = sum.sum(permanent_part(load));
     }
     sum
 }

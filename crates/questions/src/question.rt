@@ -4,17 +4,16 @@ ghost use Rattle.combination.specs.Choices.{Admissible};
 ghost use Rattle.combination.specs.Worst.{NoSpecial};
 ghost use Rattle.combination.specs.declared.picks.Pick.{Pick as PickOf};
 ghost use Rattle.combination.specs.declared.questions.Question.TheVariants.{Basic, WithSpecial};
-ghost use Rattle.norm.specs.Percentages.{Ranged};
+ghost use Rattle.questions.specs.Engine.{Finds};
 ghost use Rattle.questions.specs.Promises.{AnswersSound, AnswersSpecial};
 
 use crate::join::join;
-use crate::source::{BasicSide, Source, SpecialSide};
 use crate::weights::weigh;
-use crate::worst::worst;
+use crate::worst::Search;
 use combination::{Answer, Pick, Question};
 use effect::Effect;
 use loads::{Kind, Record};
-use norm::{Norm, SpecialNorm};
+use norm::{InSpecial, Norm, SpecialNorm};
 
 // What is shown of records that break a rule.
 fn blank<E: Effect>() -> Answer<E> {
@@ -24,49 +23,54 @@ fn blank<E: Effect>() -> Answer<E> {
     }
 }
 
-// The worst combination, where a choice is admissible.
-fn answer<E: Effect, S: Source>(source: &S, question: Question, records: &[Record<E>]) -> Answer<E>
-    requires { Ranged (S.Source.grants source.now) }
-    ensures { (picks : List PickOf) → Admissible question records.now picks → AnswersSound E.Effect.means (S.Source.grants source.now) question records.now result }
+// The worst combination; None where the records break a rule or no choice is admissible.
+fn found<E: Effect, M: Norm>(
+    norm: &M,
+    question: Question,
+    records: &[Record<E>],
+) -> Option<Answer<E>>
+    ensures { Finds E.Effect.means (M.Norm.percentages norm.now) question records.now result }
 {
-    match weigh(records) {
-        None => blank(),
-        Some(weights) => match worst(source, question, records, &weights) {
-            None => blank(),
-            Some(best) => Answer {
-                effect: best.effect,
-                picks: join(records, &best.long, &best.short, &best.special),
-            },
-        },
-    }
+    let loads = weigh(records)?;
+    let search = Search {
+        norm,
+        question,
+        loads: &loads,
+    };
+    let best = search.worst()?;
+    Some(Answer {
+        effect: best.effect,
+        picks: join(&loads, &best.parts),
+    })
+}
+
+// The worst combination, where a choice is admissible.
+fn answer<E: Effect, M: Norm>(norm: &M, question: Question, records: &[Record<E>]) -> Answer<E>
+    ensures { (picks : List PickOf) → Admissible question records.now picks → AnswersSound E.Effect.means (M.Norm.percentages norm.now) question records.now result }
+{
+    found(norm, question, records).unwrap_or(blank())
 }
 
 // The worst basic combination.
 pub fn basic<E: Effect, M: Norm>(norm: &M, records: &[Record<E>]) -> Answer<E>
     ensures { AnswersSound E.Effect.means (M.Norm.percentages norm.now) Basic records.now result }
 {
-    let side = BasicSide(norm);
-    answer(&side, Question::Basic, records)
+    answer(norm, Question::Basic, records)
 }
 
 // Whether there is no special load.
 fn has_no_special<E: Effect>(records: &[Record<E>]) -> bool
     ensures { Decides result (NoSpecial records.now) }
 {
-    for k in 0..records.len() {
-        if records[k].kind == Kind::Special {
-            return false;
-        }
-    }
-    true
+    records.iter().all(|load| load.kind != Kind::Special)
 }
 
 // The worst combination with a special load, where there is one.
 fn with_special<E: Effect, M: SpecialNorm>(norm: &M, records: &[Record<E>]) -> Answer<E>
     ensures { (NoSpecial records.now → ⊥) → AnswersSound E.Effect.means (M.SpecialNorm.special norm.now) WithSpecial records.now result }
 {
-    let side = SpecialSide(norm);
-    answer(&side, Question::WithSpecial, records)
+    let norm = InSpecial(norm);
+    answer(&norm, Question::WithSpecial, records)
 }
 
 // The worst combination with a special load; None where there is no special load.

@@ -1,21 +1,15 @@
 // The best part choices by number of records taken, carried from group to group.
-ghost use Rattle.std.specs.Prelude.{◌≡◌, ℕ, ◌+◌, ◌<◌, ◌≤◌, min, true, false, length, slice_index_or, slice_set};
+ghost use Rattle.std.specs.Prelude.{◌≡◌, ℕ, ◌+◌, ◌<◌, ◌≤◌, true, false, length, slice_index_or, slice_set};
 ghost use Rattle.questions.specs.BestParts.{Opens};
-ghost use Rattle.questions.specs.Items.{items_of, Ready};
+ghost use Rattle.questions.specs.Items.{items_of};
 ghost use Rattle.questions.specs.PartChoices.{Marked};
 ghost use Rattle.questions.specs.Tables.{TableBest, Closed, Carried, blank_table};
 
-use crate::choice::{Assignment, PartChoice, Rates};
-use crate::groups::is_fellow;
+use crate::choice::PartChoice;
+use crate::groups::Wanted;
+use crate::rated::Rated;
 use crate::row::Row;
 use effect::Effect;
-use loads::Record;
-
-fn smaller(a: usize, b: usize) -> usize
-    ensures { result ≡ min a b }
-{
-    if a < b { a } else { b }
-}
 
 #[derive(Clone, Copy)]
 pub(crate) struct Table {
@@ -41,15 +35,7 @@ impl Table {
             both: None,
         };
         let mut rows = [empty; 33];
-        let nothing = PartChoice {
-            roles: [Assignment::Out; 32],
-        };
-        rows[0] = Row {
-            neither: Some(nothing),
-            leading: None,
-            second: None,
-            both: None,
-        };
+        rows[0].neither = Some(PartChoice { roles: [None; 32] });
         Table {
             rows,
             done: [false; 32],
@@ -59,73 +45,66 @@ impl Table {
     }
 
     // Record j is done too, on top of the choices in `old`, which has one group fewer.
-    fn offer<E: Effect>(&mut self, old: &Table, records: &[Record<E>], rates: &Rates, j: usize)
-        requires ready { Ready E.means rates.now.percents rates.now.weights records.now }
-        requires opens { Opens (items_of E.means rates.now.percents records.now) old.now.done self.old.done j }
-        requires prior { TableBest E.means (items_of E.means rates.now.percents records.now) old.now }
-        requires best { TableBest E.means (items_of E.means rates.now.percents records.now) self.old }
+    fn offer<E: Effect>(&mut self, old: &Table, rated: &Rated<E>, j: usize)
+        requires opens { Opens (items_of E.means rated.now.percents rated.now.loads.now.records.now) old.now.done self.old.done j }
+        requires prior { TableBest E.means (items_of E.means rated.now.percents rated.now.loads.now.records.now) old.now }
+        requires best { TableBest E.means (items_of E.means rated.now.percents rated.now.loads.now.records.now) self.old }
         requires one { self.old.groups ≡ old.now.groups + 1 }
         requires rows { self.old.limit ≡ old.now.limit }
-        ensures best { TableBest E.means (items_of E.means rates.now.percents records.now) self.new }
+        ensures best { TableBest E.means (items_of E.means rated.now.percents rated.now.loads.now.records.now) self.new }
         ensures done { self.new.done ≡ slice_set self.old.done j true }
         ensures groups { self.new.groups ≡ self.old.groups }
         ensures limit { self.new.limit ≡ self.old.limit }
     {
-        let end = smaller(self.groups, self.limit) + 1;
+        let end = self.groups.min(self.limit) + 1;
+        // Kept: a row is read and written beside the row before it in `old`, and its place is the number of records that it takes.
         for count in 1..end {
-            let row = self.rows[count].stepped(&old.rows[count - 1], records, rates, j);
+            let row = self.rows[count].stepped(&old.rows[count - 1], rated, j);
             self.rows[count] = row;
         }
         self.done[j] = true;
     }
 
     // The wanted records of the group of record i are done too: at most one of them joins each choice.
-    fn carry<E: Effect>(
-        &mut self,
-        records: &[Record<E>],
-        rates: &Rates,
-        wanted: &[bool; 32],
-        i: usize,
-    )
-        requires ready { Ready E.means rates.now.percents rates.now.weights records.now }
-        requires here { i < length records.now }
+    fn carry<E: Effect>(&mut self, rated: &Rated<E>, wanted: &[bool; 32], i: usize)
+        requires here { i < length rated.now.loads.now.records.now }
         requires asked { Marked wanted.now i }
         requires fresh { slice_index_or self.old.done i false ≡ false }
-        requires closed { Closed (items_of E.means rates.now.percents records.now) wanted.now self.old.done }
-        requires best { TableBest E.means (items_of E.means rates.now.percents records.now) self.old }
+        requires closed { Closed (items_of E.means rated.now.percents rated.now.loads.now.records.now) wanted.now self.old.done }
+        requires best { TableBest E.means (items_of E.means rated.now.percents rated.now.loads.now.records.now) self.old }
         requires room { self.old.groups < 32 }
-        ensures best { TableBest E.means (items_of E.means rates.now.percents records.now) self.new }
-        ensures carried { Carried (items_of E.means rates.now.percents records.now) wanted.now i self.old.done self.new.done }
+        ensures best { TableBest E.means (items_of E.means rated.now.percents rated.now.loads.now.records.now) self.new }
+        ensures carried { Carried (items_of E.means rated.now.percents rated.now.loads.now.records.now) wanted.now i self.old.done self.new.done }
         ensures groups { self.new.groups ≡ self.old.groups + 1 }
         ensures limit { self.new.limit ≡ self.old.limit }
     {
         let old = *self;
         self.groups += 1;
-        for j in 0..records.len() {
-            if is_fellow(records, wanted, i, j) {
-                self.offer(&old, records, rates, j);
+        let group = Wanted {
+            loads: rated.loads,
+            flags: wanted,
+        };
+        // Kept: the loop is over the places themselves, since `offer` is handed the place.
+        for j in 0..rated.loads.records.len() {
+            if group.is_fellow(i, j) {
+                self.offer(&old, rated, j);
             }
         }
     }
 
     // The best choices among the wanted records that take up to `limit` of them.
-    pub(crate) fn of<E: Effect>(
-        records: &[Record<E>],
-        rates: &Rates,
-        wanted: &[bool; 32],
-        limit: usize,
-    ) -> Table
-        requires ready { Ready E.means rates.now.percents rates.now.weights records.now }
-        requires rows { limit ≤ 32 }
+    pub(crate) fn of<E: Effect>(rated: &Rated<E>, wanted: &[bool; 32], limit: usize) -> Table
+        requires { limit ≤ 32 }
         ensures limit { result.limit ≡ limit }
-        ensures best { TableBest E.means (items_of E.means rates.now.percents records.now) result }
-        ensures all { (k : ℕ) → k < length records.now → Marked wanted.now k → Marked result.done k }
+        ensures best { TableBest E.means (items_of E.means rated.now.percents rated.now.loads.now.records.now) result }
+        ensures all { (k : ℕ) → k < length rated.now.loads.now.records.now → Marked wanted.now k → Marked result.done k }
         ensures only { (k : ℕ) → Marked result.done k → Marked wanted.now k }
     {
         let mut table = Table::blank(limit);
-        for i in 0..records.len() {
+        // Kept: `table.done` changes in the loop, at other places too, so no iterator over it can run beside.
+        for i in 0..rated.loads.records.len() {
             if wanted[i] && !table.done[i] {
-                table.carry(records, rates, wanted, i);
+                table.carry(rated, wanted, i);
             }
         }
         table

@@ -1,7 +1,9 @@
 // The weights of the records: the upper factor times the reduction factor, each found once for a question.
-ghost use Rattle.std.specs.Prelude.{Decides};
-ghost use Rattle.questions.specs.Weights.{Allowed, Reduces, Weighs, WeighsAll};
+ghost use Rattle.std.specs.Prelude.{◌≡◌, Decides, MatchOption};
+ghost use Rattle.combination.specs.Sound.{Sound};
+ghost use Rattle.questions.specs.Weights.{Allowed, Reduces, Weighs};
 
+use crate::rated::WeighedRecords;
 use effect::Effect;
 use loads::{Kind, Record};
 
@@ -10,10 +12,8 @@ fn is_allowed(kind: Kind, f: u64) -> bool
     ensures { Decides result (Allowed kind f) }
 {
     match kind {
-        Kind::Permanent => f == 10_000,
-        Kind::LongTerm => f == 10_000,
         Kind::ShortTerm => true,
-        Kind::Special => f == 10_000,
+        Kind::Permanent | Kind::LongTerm | Kind::Special => f == 10_000,
     }
 }
 
@@ -21,16 +21,8 @@ fn is_allowed(kind: Kind, f: u64) -> bool
 fn reduction_of<E: Effect>(load: &Record<E>) -> Option<u64>
     ensures { Reduces load.now result }
 {
-    match reduction::factor(load.load.class, load.load.area, load.load.storeys) {
-        Err(_) => None,
-        Ok(f) => {
-            if is_allowed(load.kind, f) {
-                Some(f)
-            } else {
-                None
-            }
-        }
-    }
+    let f = reduction::factor(load.load.class, load.load.area, load.load.storeys).ok()?;
+    is_allowed(load.kind, f).then_some(f)
 }
 
 // The weight of a record; None where a rule is broken.
@@ -41,22 +33,20 @@ fn weight<E: Effect>(load: &Record<E>) -> Option<u64>
     if reach > 1_000_000_000 || load.load.upper > 200 || load.load.lower > 200 {
         return None;
     }
-    match reduction_of(load) {
-        None => None,
-        Some(f) => Some(load.load.upper * f),
-    }
+    let f = reduction_of(load)?;
+    Some(load.load.upper * f)
 }
 
-// The weights of all records, in their order; None where a rule is broken.
-pub(crate) fn weigh<E: Effect>(records: &[Record<E>]) -> Option<[u64; 32]>
-    ensures { WeighsAll E.means records.now result }
+// The records with their weights; None where a rule is broken.
+pub(crate) fn weigh<E: Effect>(records: &[Record<E>]) -> Option<WeighedRecords<'_, E>>
+    ensures { MatchOption result (Sound E.means records.now → ⊥) (λ loads. loads.records.now ≡ records.now) }
 {
     if records.len() > 32 {
         return None;
     }
     let mut weights = [0; 32];
-    for k in 0..records.len() {
-        weights[k] = weight(&records[k])?;
+    for (k, load) in records.iter().enumerate() {
+        weights[k] = weight(load)?;
     }
-    Some(weights)
+    Some(WeighedRecords { records, weights })
 }

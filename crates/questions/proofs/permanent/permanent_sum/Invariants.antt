@@ -1,6 +1,7 @@
-use Rattle.std.proofs.Common.{◌≡◌, drop}
-use Rattle.questions.specs.Engine.{fixed_best}
+use Rattle.std.proofs.Common.{◌≡◌, take}
+use Rattle.effect.specs.Sums.{total}
+use Rattle.questions.proofs.Marking.{bests}
 use Rattle.questions.proofs.permanent.permanent_sum.Given as goal
 
-abbrev pub invariant-loop-k : goal.invariant-loop-k
-invariant-loop-k g l = l.sum ≡ fixed_best g.E.Effect.means (drop l.k l.records)
+abbrev pub invariant-loop-load : goal.invariant-loop-load
+invariant-loop-load g l = l.sum ≡ total g.E.Effect.means (take l.load-index (bests g.E.Effect.means l.loads.records.now))

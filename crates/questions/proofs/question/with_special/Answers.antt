@@ -5,9 +5,6 @@ use Rattle.combination.specs.declared.questions.Question.TheVariants.{WithSpecia
 use Rattle.combination.proofs.Existence.{special_or_none}
 use Rattle.questions.proofs.question.with_special.Goals as goal
 
-pub answer-requires : goal.answer-requires
-answer-requires g c = g.met.M.SpecialNorm.special_ranged c.args.norm.now
-
 pub returns : goal.returns
 returns g c =
     let rs = c.args.records.now in

@@ -11,8 +11,7 @@ use Rattle.questions.proofs.table.Table.carry.Goals.{then-is_fellow, else-is_fel
 
 pub offer-requires : goal.offer-requires
 offer-requires g c = record {
-  ready = c.requires.ready;
-  opens = carrying_opens (items_of g.E.Effect.means c.args.rates.now.percents c.args.records.now) c.args.wanted.now c.args.i c.args.self.now.done (omega (arith, c.requires.here, same_length g.E.Effect.means c.args.rates.now.percents c.args.records.now)) c.requires.asked c.requires.fresh c.requires.closed c.loop-j.j (omega (arith, c.loop-j-test.true, same_length g.E.Effect.means c.args.rates.now.percents c.args.records.now)) (omega (arith, c.requires.ready.kept.few, same_length g.E.Effect.means c.args.rates.now.percents c.args.records.now)) ((c.is_fellow.ensures c.args.rates.now.percents).0 c.if-is_fellow.true) c.loop-j.invariant.1;
+  opens = carrying_opens (items_of g.E.Effect.means c.args.rated.now.percents c.args.rated.now.loads.now.records.now) c.args.wanted.now c.args.i c.args.self.now.done (omega (arith, c.requires.here, same_length g.E.Effect.means c.args.rated.now.percents c.args.rated.now.loads.now.records.now)) c.requires.asked c.requires.fresh c.requires.closed c.loop-j.j (omega (arith, c.loop-j-test.true, same_length g.E.Effect.means c.args.rated.now.percents c.args.rated.now.loads.now.records.now)) (omega (arith, c.args.rated.now.loads.now.kept.few, same_length g.E.Effect.means c.args.rated.now.percents c.args.rated.now.loads.now.records.now)) ((c.is_fellow.ensures c.args.rated.now.percents).0 c.if-is_fellow.true) c.loop-j.invariant.1;
   prior = c.requires.best;
   best = c.loop-j.invariant.0;
   one = c.loop-j.invariant.2;
@@ -20,22 +19,22 @@ offer-requires g c = record {
 }
 
 pub loop-j-init : goal.loop-j-init
-loop-j-init g c = (best_raised c.args.self.now c.requires.room c.requires.best, carrying_none (items_of g.E.Effect.means c.args.rates.now.percents c.args.records.now) c.args.wanted.now c.args.i c.args.self.now.done c.requires.best.flags, refl, refl)
+loop-j-init g c = (best_raised c.args.self.now c.requires.room c.requires.best, carrying_none (items_of g.E.Effect.means c.args.rated.now.percents c.args.rated.now.loads.now.records.now) c.args.wanted.now c.args.i c.args.self.now.done c.requires.best.flags, refl, refl)
 
 pub loop-j-preserved : goal.loop-j-preserved
 loop-j-preserved g c =
-    let after : Table → Type 0 = λ t. TableBest g.E.Effect.means (items_of g.E.Effect.means c.args.rates.now.percents c.args.records.now) t × Carrying (items_of g.E.Effect.means c.args.rates.now.percents c.args.records.now) c.args.wanted.now c.args.i c.args.self.now.done t.done (c.loop-j.j + 1) × (t.groups ≡ c.args.self.now.groups + 1) × (t.limit ≡ c.args.self.now.limit) in
+    let after : Table → Type 0 = λ t. TableBest g.E.Effect.means (items_of g.E.Effect.means c.args.rated.now.percents c.args.rated.now.loads.now.records.now) t × Carrying (items_of g.E.Effect.means c.args.rated.now.percents c.args.rated.now.loads.now.records.now) c.args.wanted.now c.args.i c.args.self.now.done t.done (c.loop-j.j + 1) × (t.groups ≡ c.args.self.now.groups + 1) × (t.limit ≡ c.args.self.now.limit) in
     elim c.if-is_fellow.branch [
       | then-is_fellow w ↦ subst after (sym w.self-is) (
         w.offer.ensures.best,
-        subst (λ (d : List Bool). Carrying (items_of g.E.Effect.means c.args.rates.now.percents c.args.records.now) c.args.wanted.now c.args.i c.args.self.now.done d (c.loop-j.j + 1)) (sym w.offer.ensures.done)
-            (carrying_more (items_of g.E.Effect.means c.args.rates.now.percents c.args.records.now) c.args.wanted.now c.args.i c.args.self.now.done c.loop-j.j (omega (arith, c.requires.ready.kept.few, c.loop-j-test.true)) ((c.is_fellow.ensures c.args.rates.now.percents).0 w.if-is_fellow.true) c.loop-j.invariant.1),
+        subst (λ (d : List Bool). Carrying (items_of g.E.Effect.means c.args.rated.now.percents c.args.rated.now.loads.now.records.now) c.args.wanted.now c.args.i c.args.self.now.done d (c.loop-j.j + 1)) (sym w.offer.ensures.done)
+            (carrying_more (items_of g.E.Effect.means c.args.rated.now.percents c.args.rated.now.loads.now.records.now) c.args.wanted.now c.args.i c.args.self.now.done c.loop-j.j (omega (arith, c.args.rated.now.loads.now.kept.few, c.loop-j-test.true)) ((c.is_fellow.ensures c.args.rated.now.percents).0 w.if-is_fellow.true) c.loop-j.invariant.1),
         w.offer.ensures.groups ∙ c.loop-j.invariant.2,
         w.offer.ensures.limit ∙ c.loop-j.invariant.3,
       )
       | else-is_fellow w ↦ subst after (sym w.self-is) (
         c.loop-j.invariant.0,
-        carrying_skip (items_of g.E.Effect.means c.args.rates.now.percents c.args.records.now) c.args.wanted.now c.args.i c.args.self.now.done c.loop-j.j (not_from_Decides c.is_fellow.result (c.is_fellow.ensures c.args.rates.now.percents) w.if-is_fellow.false) c.loop-j.invariant.1,
+        carrying_skip (items_of g.E.Effect.means c.args.rated.now.percents c.args.rated.now.loads.now.records.now) c.args.wanted.now c.args.i c.args.self.now.done c.loop-j.j (not_from_Decides c.is_fellow.result (c.is_fellow.ensures c.args.rated.now.percents) w.if-is_fellow.false) c.loop-j.invariant.1,
         c.loop-j.invariant.2,
         c.loop-j.invariant.3,
       )
@@ -44,7 +43,7 @@ loop-j-preserved g c =
 pub returns : goal.returns
 returns g c = record {
   best = c.loop-j.invariant.0;
-  carried = carrying_all (items_of g.E.Effect.means c.args.rates.now.percents c.args.records.now) c.args.wanted.now c.args.i c.args.self.now.done c.loop-j.j (omega (arith, c.loop-j-test.false, same_length g.E.Effect.means c.args.rates.now.percents c.args.records.now)) c.loop-j.invariant.1;
+  carried = carrying_all (items_of g.E.Effect.means c.args.rated.now.percents c.args.rated.now.loads.now.records.now) c.args.wanted.now c.args.i c.args.self.now.done c.loop-j.j (omega (arith, c.loop-j-test.false, same_length g.E.Effect.means c.args.rated.now.percents c.args.rated.now.loads.now.records.now)) c.loop-j.invariant.1;
   groups = c.loop-j.invariant.2;
   limit = c.loop-j.invariant.3;
 }

@@ -6,8 +6,8 @@ use Rattle.questions.proofs.table.Table.of.Given as goal
 
 abbrev pub invariant-loop-i : goal.invariant-loop-i
 invariant-loop-i g l =
-    TableBest g.E.Effect.means (items_of g.E.Effect.means l.rates.percents l.records) l.table
-    × Closed (items_of g.E.Effect.means l.rates.percents l.records) l.wanted l.table.done
+    TableBest g.E.Effect.means (items_of g.E.Effect.means l.rated.percents l.rated.loads.now.records.now) l.table
+    × Closed (items_of g.E.Effect.means l.rated.percents l.rated.loads.now.records.now) l.wanted l.table.done
     × ((k : ℕ) → k < l.i → Marked l.wanted k → Marked l.table.done k)
     × ((k : ℕ) → Marked l.table.done k → Marked l.wanted k)
     × (l.table.groups ≤ l.i)

@@ -8,4 +8,4 @@ invariant-loop-count g l =
     (l.self.done ≡ l.initial.self.done)
     × (l.self.groups ≡ l.initial.self.groups)
     × (l.self.limit ≡ l.initial.self.limit)
-    × Offering g.E.Effect.means (items_of g.E.Effect.means l.rates.percents l.records) l.initial.self.rows l.self.rows l.initial.self.done l.j l.count
+    × Offering g.E.Effect.means (items_of g.E.Effect.means l.rated.percents l.rated.loads.now.records.now) l.initial.self.rows l.self.rows l.initial.self.done l.j l.count
