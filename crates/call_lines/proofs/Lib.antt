@@ -1,4 +1,1 @@
 pub mod CallForm
-pub mod EntryForm
-pub mod HeaderForm
-pub mod Words

@@ -1,34 +1,13 @@
 // One line for each call on a sheet.
 ghost use Rattle.std.specs.Prelude.{◌≡◌};
 ghost use Rattle.lines.specs.Reading.{Anything, Reads, ReadsLine};
-ghost use Rattle.call_lines.specs.Calls.{Legible, OfChangeName, OfName, arguments_end, call_line, change_end};
+ghost use Rattle.call_lines.specs.Calls.{Legible, OfName, arguments_end, call_line};
 
-use crate::entry::entry_line;
-use crate::names::{CallName, ChangeName, call_name};
+use crate::names::CallName;
 use effect::Written;
 use history::Call;
 use lines::token::Tokens;
-use sheet::Change;
-
-// What follows the name of a change, and the line end.
-fn change_arguments<E: Written>(tokens: &mut Tokens, name: ChangeName) -> Option<Change<E>>
-    ensures { Reads (OfChangeName E.Written.writes name) (change_end E.Written.writes) Anything tokens.old result tokens.new }
-{
-    match name {
-        ChangeName::Enter => {
-            let (number, letter, load) = entry_line::<E>(tokens)?;
-            Some(Change::Enter(number, letter, load))
-        }
-        ChangeName::Alter => {
-            let (number, letter, load) = entry_line::<E>(tokens)?;
-            Some(Change::Alter(number, letter, load))
-        }
-        ChangeName::Strike => {
-            let number = tokens.last_field()?;
-            Some(Change::Strike(number))
-        }
-    }
-}
+use load_lines::word_field;
 
 // What follows the call's name, and the line end.
 fn arguments<E: Written>(tokens: &mut Tokens, name: CallName) -> Option<Call<E>>
@@ -36,7 +15,7 @@ fn arguments<E: Written>(tokens: &mut Tokens, name: CallName) -> Option<Call<E>>
 {
     match name {
         CallName::Change(name) => {
-            let change = change_arguments::<E>(tokens, name)?;
+            let change = calls::arguments::<E>(tokens, name)?;
             Some(Call::Change(change))
         }
         CallName::Ask(question) => {
@@ -50,6 +29,6 @@ fn arguments<E: Written>(tokens: &mut Tokens, name: CallName) -> Option<Call<E>>
 pub fn read_call<E: Written>(tokens: &mut Tokens) -> Option<Call<E>>
     ensures { ReadsLine (Legible E.Written.writes) (call_line E.Written.writes) tokens.old result tokens.new }
 {
-    let name = call_name(tokens)?;
+    let name = word_field::<CallName>(tokens, false)?;
     arguments::<E>(tokens, name)
 }

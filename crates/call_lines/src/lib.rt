@@ -1,16 +1,13 @@
-// The lines of a run of calls on a sheet: its first line, the calls, what is said of each and the records.
+// The lines of a run of calls on a sheet, the questions among them, and what is said of each. Its first line and the records are as without questions.
 #![tactic(auto)]
 
 mod call;
-mod entry;
-mod header;
 mod names;
-mod record_line;
 mod reply;
 #[cfg(test)]
 mod tests;
 
 pub use call::read_call;
-pub use header::{Header, read_header};
-pub use record_line::RecordLine;
+pub use calls::{Header, RecordLine, read_header};
+pub use names::CallName;
 pub use reply::Reply;

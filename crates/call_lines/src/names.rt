@@ -1,40 +1,32 @@
 // The words by which a line names its call.
-ghost use Rattle.lines.specs.Numeral.{Spelt};
-ghost use Rattle.lines.specs.Reading.{Anything, Ends, Reads, before};
-ghost use Rattle.call_lines.specs.Names.{call_word};
+ghost use Rattle.call_lines.specs.Names.{call_word, call_words};
 
+use calls::ChangeName;
 use combination::Question;
-use lines::token::Tokens;
+use words::Word;
 
-#[derive(Clone, Copy)]
-pub(crate) enum ChangeName {
-    Enter,
-    Alter,
-    Strike,
-}
-
-#[derive(Clone, Copy)]
-pub(crate) enum CallName {
+#[derive(Clone, Copy, PartialEq, Eq, Debug)]
+pub enum CallName {
     Change(ChangeName),
     Ask(Question),
 }
 
-fn from_word(text: &[u8]) -> Option<CallName>
-    ensures { Spelt Anything call_word text.now result }
-{
-    match text {
-        b"ENTER" => Some(CallName::Change(ChangeName::Enter)),
-        b"ALTER" => Some(CallName::Change(ChangeName::Alter)),
-        b"STRIKE" => Some(CallName::Change(ChangeName::Strike)),
-        b"BASIC" => Some(CallName::Ask(Question::Basic)),
-        b"SPECIAL" => Some(CallName::Ask(Question::WithSpecial)),
-        _ => None,
-    }
-}
+impl Word for CallName {
+    ghost word_of = { call_word };
 
-pub(crate) fn call_name(tokens: &mut Tokens) -> Option<CallName>
-    ensures { Reads Anything (before call_word) Ends tokens.old result tokens.new }
-{
-    let text = tokens.field_text(false)?;
-    from_word(text)
+    ghost lawful = { call_words };
+
+    fn word(self) -> &'static str {
+        match self {
+            CallName::Change(name) => name.word(),
+            CallName::Ask(question) => question.word(),
+        }
+    }
+
+    fn from_word(text: &[u8]) -> Option<CallName> {
+        match ChangeName::from_word(text) {
+            Some(name) => Some(CallName::Change(name)),
+            None => Question::from_word(text).map(CallName::Ask),
+        }
+    }
 }

@@ -1,17 +1,16 @@
 // What is said of a call's outcome.
 ghost use Rattle.refusals.specs.Numbers.{number_of};
-ghost use Rattle.combination.specs.declared.questions.Question.TheVariants.{Basic, WithSpecial};
 ghost use Rattle.history.specs.History.{asked, both};
 ghost use Rattle.writing.specs.Writing.{Writes};
 ghost use Rattle.answer_lines.specs.Lines.{answer_text};
 ghost use Rattle.call_lines.specs.Replies.{done_text, refused_text, reply_text};
 
-use answer_lines::{write_basic, write_special};
+use answer_lines::write_answer;
 use combination::{Answer, Question};
 use effect::Written;
 use history::{Call, Outcome};
 use loads::Record;
-use norm::{Norm, SpecialNorm};
+use norm::{InSpecial, SpecialNorm};
 use refusals::Refusal;
 use writing::{Text, Writer};
 
@@ -34,12 +33,12 @@ fn write_refused(out: &mut Writer, refusal: Refusal)
     ensures { Writes out.old (refused_text (number_of refusal)) out.new }
 {
     out.word(b"REFUSED ");
-    out.number(refusal.number() as u64);
+    out.number(refusal.number());
     out.put(b'\n');
 }
 
-// The answer to a question.
-fn write_answer<E: Written, M: SpecialNorm>(
+// The answer to a question, under the norm that the question asks.
+fn write_asked<E: Written, M: SpecialNorm>(
     out: &mut Writer,
     norm: &M,
     records: &[Record<E>],
@@ -49,8 +48,8 @@ fn write_answer<E: Written, M: SpecialNorm>(
     ensures { Writes out.old (answer_text E.Written.writes (asked (both (M.Norm.percentages norm.now) (M.SpecialNorm.special norm.now)) question) question records.now answer.now) out.new }
 {
     match question {
-        Question::Basic => write_basic(out, norm, records, answer),
-        Question::WithSpecial => write_special(out, norm, records, answer),
+        Question::Basic => write_answer(out, question, norm, records, answer),
+        Question::WithSpecial => write_answer(out, question, &InSpecial(norm), records, answer),
     }
 }
 
@@ -58,15 +57,12 @@ impl<'a, E: Written, M: SpecialNorm> Text for Reply<'a, E, M> {
     ghost text = { λ x. reply_text E.Written.writes (both (M.Norm.percentages x.norm.now) (M.SpecialNorm.special x.norm.now)) x.records.now x.call x.outcome };
 
     fn write_to(&self, out: &mut Writer) {
-        match self.outcome {
-            Outcome::Done => write_done(out),
-            Outcome::Refused(refusal) => write_refused(out, refusal),
-            Outcome::Answered(answer) => match self.call {
-                Call::Change(_) => write_done(out),
-                Call::Ask(question) => {
-                    write_answer(out, self.norm, self.records, question, &answer)
-                }
-            },
+        match (self.outcome, self.call) {
+            (Err(refusal), _) => write_refused(out, refusal),
+            (Ok(Some(answer)), Call::Ask(question)) => {
+                write_asked(out, self.norm, self.records, question, &answer)
+            }
+            _ => write_done(out),
         }
     }
 }

@@ -1,7 +1,7 @@
 // Lines that are read, lines that are not, and a record that is listed.
 use crate::call::read_call;
-use crate::header::{Header, read_header};
-use crate::record_line::RecordLine;
+use crate::RecordLine;
+use crate::{Header, read_header};
 use combination::Question;
 use effect::{EffectName, N, NM};
 use history::Call;
@@ -9,7 +9,7 @@ use lines::token::Tokens;
 use load_lines::Names;
 use loads::{Kind, Load, Record};
 use norm::NormName;
-use sheet::Change;
+use sheet::{Change, Entry};
 use writing::write_whole;
 
 #[test]
@@ -46,7 +46,12 @@ fn other_first_lines_are_refused(rt: HostRuntime) {
 // Number, letter, group, storeys and force of an entry.
 fn entered(text: &str) -> Option<(u64, char, u64, u64, i64)> {
     match read_call::<N>(&mut Tokens::new(text.as_bytes())) {
-        Some(Call::Change(Change::Enter(number, letter, load))) => {
+        Some(Call::Change(Change::Enter(entry))) => {
+            let Entry {
+                number,
+                letter,
+                load,
+            } = entry;
             Some((number, letter, load.group, load.storeys, load.effect.force))
         }
         _ => None,
@@ -86,7 +91,7 @@ fn other_entries_are_refused(rt: HostRuntime) {
 // Number, force and moment of an alteration; the number alone of a striking-off.
 fn changed(text: &str) -> Option<(u64, Option<(i64, i64)>)> {
     match read_call::<NM>(&mut Tokens::new(text.as_bytes())) {
-        Some(Call::Change(Change::Alter(number, _, load))) => {
+        Some(Call::Change(Change::Alter(Entry { number, load, .. }))) => {
             Some((number, Some((load.effect.force, load.effect.moment))))
         }
         Some(Call::Change(Change::Strike(number))) => Some((number, None)),

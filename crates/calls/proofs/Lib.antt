@@ -2,4 +2,3 @@ pub mod ChangeForm
 pub mod EntryForm
 pub mod HeaderForm
 pub mod Listing
-pub mod Words

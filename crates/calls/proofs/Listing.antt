@@ -14,7 +14,7 @@ use Rattle.loads.specs.declared.kinds.Kind.TheVariants.{Permanent, LongTerm, Sho
 use Rattle.loads.specs.declared.records.Record.{Record}
 use Rattle.lines.specs.Reading.{spaced}
 use Rattle.lines.proofs.Rows.{spaced_push}
-use Rattle.calls.specs.Entries.{load_numbers}
+use Rattle.load_lines.specs.Loads.{load_numbers}
 use Rattle.calls.specs.Records.{record_start, record_text}
 
 letter_ascii : (k : Kind) → letter_of k < 128

@@ -4,7 +4,7 @@ use Rattle.effect.specs.Notations.{Notation}
 use Rattle.loads.specs.Letters.{letter_of}
 use Rattle.loads.specs.declared.kinds.Kind.{Kind}
 use Rattle.loads.specs.declared.records.Record.{Record}
-use Rattle.calls.specs.Entries.{load_text}
+use Rattle.load_lines.specs.Loads.{load_text}
 
 -- number, letter of the kind and the numbers of the load, split by one blank
 abbrev pub record_text : {E : Type 0} → Notation E → Record E → List ℕ

@@ -4,25 +4,26 @@ ghost use Rattle.lines.specs.Reading.{Anything, Reads, ReadsLine};
 ghost use Rattle.calls.specs.Changes.{Legible, OfName, arguments_end, change_line};
 
 use crate::entry::entry_line;
-use crate::names::{CallName, call_name};
+use crate::names::ChangeName;
 use effect::Written;
 use lines::token::Tokens;
+use load_lines::word_field;
 use sheet::Change;
 
-// What follows the call's name, and the line end.
-fn arguments<E: Written>(tokens: &mut Tokens, name: CallName) -> Option<Change<E>>
+// What follows the name of a change, and the line end.
+pub fn arguments<E: Written>(tokens: &mut Tokens, name: ChangeName) -> Option<Change<E>>
     ensures { Reads (OfName E.Written.writes name) (arguments_end E.Written.writes) Anything tokens.old result tokens.new }
 {
     match name {
-        CallName::Enter => {
-            let (number, letter, load) = entry_line::<E>(tokens)?;
-            Some(Change::Enter(number, letter, load))
+        ChangeName::Enter => {
+            let entry = entry_line::<E>(tokens)?;
+            Some(Change::Enter(entry))
         }
-        CallName::Alter => {
-            let (number, letter, load) = entry_line::<E>(tokens)?;
-            Some(Change::Alter(number, letter, load))
+        ChangeName::Alter => {
+            let entry = entry_line::<E>(tokens)?;
+            Some(Change::Alter(entry))
         }
-        CallName::Strike => {
+        ChangeName::Strike => {
             let number = tokens.last_field()?;
             Some(Change::Strike(number))
         }
@@ -33,6 +34,6 @@ fn arguments<E: Written>(tokens: &mut Tokens, name: CallName) -> Option<Change<E
 pub fn read_change<E: Written>(tokens: &mut Tokens) -> Option<Change<E>>
     ensures { ReadsLine (Legible E.Written.writes) (change_line E.Written.writes) tokens.old result tokens.new }
 {
-    let name = call_name(tokens)?;
+    let name = word_field::<ChangeName>(tokens, false)?;
     arguments::<E>(tokens, name)
 }

@@ -9,6 +9,7 @@ mod record_line;
 #[cfg(test)]
 mod tests;
 
-pub use change::read_change;
+pub use change::{arguments, read_change};
 pub use header::{Header, read_header};
+pub use names::ChangeName;
 pub use record_line::RecordLine;

@@ -1,31 +1,34 @@
-// The words by which a line names its call.
-ghost use Rattle.lines.specs.Numeral.{Spelt};
-ghost use Rattle.lines.specs.Reading.{Anything, Ends, Reads, before};
-ghost use Rattle.calls.specs.Names.{call_word};
+// The words by which a line names a change.
+ghost use Rattle.calls.specs.Names.{change_word, change_words};
 
-use lines::token::Tokens;
+use words::Word;
 
-#[derive(Clone, Copy)]
-pub(crate) enum CallName {
+#[derive(Clone, Copy, PartialEq, Eq, Debug)]
+pub enum ChangeName {
     Enter,
     Alter,
     Strike,
 }
 
-fn from_word(text: &[u8]) -> Option<CallName>
-    ensures { Spelt Anything call_word text.now result }
-{
-    match text {
-        b"ENTER" => Some(CallName::Enter),
-        b"ALTER" => Some(CallName::Alter),
-        b"STRIKE" => Some(CallName::Strike),
-        _ => None,
-    }
-}
+impl Word for ChangeName {
+    ghost word_of = { change_word };
 
-pub(crate) fn call_name(tokens: &mut Tokens) -> Option<CallName>
-    ensures { Reads Anything (before call_word) Ends tokens.old result tokens.new }
-{
-    let text = tokens.field_text(false)?;
-    from_word(text)
+    ghost lawful = { change_words };
+
+    fn word(self) -> &'static str {
+        match self {
+            ChangeName::Enter => "ENTER",
+            ChangeName::Alter => "ALTER",
+            ChangeName::Strike => "STRIKE",
+        }
+    }
+
+    fn from_word(text: &[u8]) -> Option<ChangeName> {
+        match text {
+            b"ENTER" => Some(ChangeName::Enter),
+            b"ALTER" => Some(ChangeName::Alter),
+            b"STRIKE" => Some(ChangeName::Strike),
+            _ => None,
+        }
+    }
 }

@@ -1,28 +1,18 @@
-// A record as one line of fields, without a line end.
-ghost use Rattle.std.specs.Prelude.{[], ◌∷◌, Some, decimal};
+// A record as one line of fields.
+ghost use Rattle.std.specs.Prelude.{[], ◌∷◌, ◌++◌, Some, decimal};
 ghost use Rattle.std.specs.Fmt.{WritesOnOk, signed_decimal};
 ghost use Rattle.lines.specs.Reading.{spaced};
 ghost use Rattle.calls.specs.Records.{record_start, record_text};
 
 use effect::Written;
+use load_lines::{numbers_of, write_load};
 use loads::{Kind, Record};
 use std::fmt;
+use writing::{Text, Writer};
 
-// A record that is shown as its fields, split by one blank.
+// A record as its fields, split by one blank: shown without a line end, written as a text with it.
 #[derive(Clone, Copy)]
 pub struct RecordLine<E>(pub Record<E>);
-
-fn show_number<W: fmt::Write>(n: u64, f: &mut fmt::Formatter<W>) -> fmt::Result
-    ensures { WritesOnOk W.Write.write_str_gives f.old result (32 ∷ decimal n) f.new }
-{
-    write!(f, " {n}")
-}
-
-fn show_integer<W: fmt::Write>(z: i64, f: &mut fmt::Formatter<W>) -> fmt::Result
-    ensures { WritesOnOk W.Write.write_str_gives f.old result (32 ∷ signed_decimal z) f.new }
-{
-    write!(f, " {z}")
-}
 
 // The number of a record and the letter of its kind.
 fn show_start<W: fmt::Write>(number: u64, kind: Kind, f: &mut fmt::Formatter<W>) -> fmt::Result
@@ -37,7 +27,7 @@ fn show_numbers<W: fmt::Write>(numbers: &[u64], f: &mut fmt::Formatter<W>) -> fm
     ensures { WritesOnOk W.Write.write_str_gives f.old result (spaced decimal numbers.now []) f.new }
 {
     for n in numbers {
-        show_number(*n, f)?;
+        write!(f, " {n}")?;
     }
     Ok(())
 }
@@ -47,7 +37,8 @@ fn show_effect<E: Written, W: fmt::Write>(effect: E, f: &mut fmt::Formatter<W>) 
     ensures { WritesOnOk W.Write.write_str_gives f.old result (spaced signed_decimal (E.Written.writes.numbers effect) []) f.new }
 {
     for place in 0..E::count() {
-        show_integer(effect.number(place), f)?;
+        let z = effect.number(place);
+        write!(f, " {z}")?;
     }
     Ok(())
 }
@@ -56,17 +47,20 @@ impl<E: Written> fmt::Display for RecordLine<E> {
     ghost output = { λ x. Some (record_text E.writes x.0) };
 
     fn fmt<W: fmt::Write>(&self, f: &mut fmt::Formatter<W>) -> fmt::Result {
-        let load = self.0.load;
-        let numbers = [
-            load.group,
-            load.upper,
-            load.lower,
-            load.class,
-            load.area,
-            load.storeys,
-        ];
         show_start(self.0.number, self.0.kind, f)?;
-        show_numbers(&numbers, f)?;
-        show_effect(load.effect, f)
+        show_numbers(&numbers_of(&self.0.load), f)?;
+        show_effect(self.0.load.effect, f)
+    }
+}
+
+impl<E: Written> Text for RecordLine<E> {
+    ghost text = { λ x. record_text E.Written.writes x.0 ++ (10 ∷ []) };
+
+    fn write_to(&self, out: &mut Writer) {
+        out.number(self.0.number);
+        out.put(b' ');
+        out.put(self.0.kind.letter() as u8);
+        write_load(out, &self.0.load);
+        out.put(b'\n');
     }
 }

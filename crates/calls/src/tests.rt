@@ -4,16 +4,20 @@ use crate::header::{Header, read_header};
 use crate::record_line::RecordLine;
 use effect::{EffectName, N, NM};
 use lines::token::Tokens;
+use load_lines::Names;
 use loads::{Kind, Load, Record};
 use norm::NormName;
-use sheet::Change;
+use sheet::{Change, Entry};
 use std::test::Fail;
 
 #[test]
 fn a_first_line_is_read(rt: HostRuntime) {
-    let header = Header {
+    let names = Names {
         norm: NormName::Snip85,
         effect: EffectName::Nm,
+    };
+    let header = Header {
+        names,
         places: 9_999_999_999,
     };
     let mut tokens = Tokens::new(b"SNIP85 NM 9999999999\nSTRIKE 1\n");
@@ -42,7 +46,12 @@ fn other_first_lines_are_refused(rt: HostRuntime) {
 // Number, letter, group, storeys and force of an entry.
 fn entered(text: &str) -> Option<(u64, char, u64, u64, i64)> {
     match read_change::<N>(&mut Tokens::new(text.as_bytes())) {
-        Some(Change::Enter(number, letter, load)) => {
+        Some(Change::Enter(entry)) => {
+            let Entry {
+                number,
+                letter,
+                load,
+            } = entry;
             Some((number, letter, load.group, load.storeys, load.effect.force))
         }
         _ => None,
@@ -82,7 +91,7 @@ fn other_entries_are_refused(rt: HostRuntime) {
 // Number, force and moment of an alteration; the number alone of a striking-off.
 fn changed(text: &str) -> Option<(u64, Option<(i64, i64)>)> {
     match read_change::<NM>(&mut Tokens::new(text.as_bytes())) {
-        Some(Change::Alter(number, _, load)) => {
+        Some(Change::Alter(Entry { number, load, .. })) => {
             Some((number, Some((load.effect.force, load.effect.moment))))
         }
         Some(Change::Strike(number)) => Some((number, None)),

@@ -1,2 +1,3 @@
 pub mod LoadForm
 pub mod NamesForm
+pub mod WordFields

@@ -1,56 +1,17 @@
--- The words of norms and effect types are fields, and no two are alike; two of them in a line.
+-- The names of a norm and of an effect type in a line.
 -- Assumes nothing.
-use Rattle.std.proofs.Common.{◌≡◌, ℕ, true, false, List, length, Some, None, Option, refl, ap, arith}
-use Rattle.effect.specs.Names.{effect_word, Spelt as EffectSpelt}
-use Rattle.effect.specs.declared.names.EffectName.{EffectName}
-use Rattle.effect.specs.declared.names.EffectName.TheVariants.{N, Nm}
-use Rattle.norm.specs.Words.{norm_word, Named}
-use Rattle.norm.specs.declared.names.NormName.{NormName}
-use Rattle.norm.specs.declared.names.NormName.TheVariants.{Sp20, Snip85}
-use Rattle.lines.specs.Numeral.{Spelt}
-use Rattle.lines.specs.Reading.{Anything, Ends, FieldText, before, led}
+use Rattle.std.proofs.Common.{true, false, refl}
+use Rattle.effect.specs.Names.{effect_word, effect_words}
+use Rattle.norm.specs.Words.{norm_word, norm_words}
+use Rattle.lines.specs.Reading.{Anything, Ends, led}
 use Rattle.lines.proofs.Sequences.{Form, Sequence, form}
-use Rattle.lines.proofs.Spellings.{Spelling, field_form}
+use Rattle.lines.proofs.Spellings.{field_form}
 use Rattle.load_lines.specs.Names.{names_text}
+use Rattle.load_lines.proofs.WordFields.{word_spelling}
 
--- what the tables of the norms and of the effect types answer
-pub norm_spelt : (text : List ℕ) (r : Option NormName) → Named text r → Spelt Anything norm_word text r
-norm_spelt text (Some n) h = (tt, (h n).0 refl)
-norm_spelt text None h = λ n any e. let q = (h n).1 e in let z : ◌≡◌ {A = ℕ} 0 1 = cc in omega arith
-
-pub effect_spelt : (text : List ℕ) (r : Option EffectName) → EffectSpelt effect_word text r → Spelt Anything effect_word text r
-effect_spelt text (Some a) h = (tt, h)
-effect_spelt text None h = λ a any e. h a e
-
-norm_text : (n : NormName) → FieldText (norm_word n)
-norm_text Sp20 = (omega arith, refl)
-norm_text Snip85 = (omega arith, refl)
-
-norm_same : (m n : NormName) → norm_word m ≡ norm_word n → m ≡ n
-norm_same Sp20 Sp20 e = refl
-norm_same Sp20 Snip85 e = absurd (omega (arith, ap length e))
-norm_same Snip85 Sp20 e = absurd (omega (arith, ap length e))
-norm_same Snip85 Snip85 e = refl
-
-effect_text : (n : EffectName) → FieldText (effect_word n)
-effect_text N = (omega arith, refl)
-effect_text Nm = (omega arith, refl)
-
-effect_same : (m n : EffectName) → effect_word m ≡ effect_word n → m ≡ n
-effect_same N N e = refl
-effect_same N Nm e = absurd (omega (arith, ap length e))
-effect_same Nm N e = absurd (omega (arith, ap length e))
-effect_same Nm Nm e = refl
-
-pub norm_spelling : Spelling Anything Anything norm_word
-norm_spelling = record { knows = λ n ok. tt; text = λ n ok. norm_text n; valid_from = λ n ok text. tt; same = λ m n p q. norm_same m n }
-
-pub effect_spelling : Spelling Anything Anything effect_word
-effect_spelling = record { knows = λ n ok. tt; text = λ n ok. effect_text n; valid_from = λ n ok text. tt; same = λ m n p q. effect_same m n }
-
-pub names : Sequence 0 Anything (before norm_word) Ends (λ n. Anything) (λ n. led true effect_word) Ends (λ n e. record { norm = n; effect = e }) Anything names_text
+pub names : Sequence 0 Anything (led false norm_word) Ends (λ n. Anything) (λ n. led true effect_word) Ends (λ n e. record { norm = n; effect = e }) Anything names_text
 names = record {
-  first = field_form norm_spelling false;
+  first = field_form (word_spelling norm_word norm_words) false;
   follows = λ n e t ok ends. refl;
   made = λ n e p q. tt;
   joined = λ n e t p q. refl;
@@ -58,4 +19,4 @@ names = record {
 }
 
 pub names_form : Form 0 Anything names_text Ends
-names_form = form names (λ n ok. field_form effect_spelling true)
+names_form = form names (λ n ok. field_form (word_spelling effect_word effect_words) true)

@@ -5,6 +5,6 @@ mod load_writer;
 mod names;
 mod reading;
 
-pub use load_writer::{write_effect, write_load};
-pub use names::{Names, names_fields};
+pub use load_writer::{numbers_of, write_effect, write_load};
+pub use names::{Names, names_fields, word_field};
 pub use reading::load_line;

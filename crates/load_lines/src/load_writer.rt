@@ -9,7 +9,7 @@ use loads::Load;
 use writing::{Style, Whole, Writer};
 
 // The numbers before the effect, in their order.
-fn numbers_of<E>(load: &Load<E>) -> [u64; 6]
+pub fn numbers_of<E>(load: &Load<E>) -> [u64; 6]
     ensures { result ≡ load_numbers load.now }
 {
     [

@@ -1,13 +1,11 @@
 // The names of a norm and of an effect type, at the start of a line.
-ghost use Rattle.std.specs.Prelude.{true};
-ghost use Rattle.effect.specs.Names.{effect_word};
-ghost use Rattle.norm.specs.Words.{norm_word};
-ghost use Rattle.lines.specs.Reading.{Anything, Ends, Reads, before, led};
+ghost use Rattle.lines.specs.Reading.{Anything, Ends, Reads, led};
 ghost use Rattle.load_lines.specs.Names.{names_text};
 
 use effect::EffectName;
 use lines::token::Tokens;
 use norm::NormName;
+use words::Word;
 
 #[derive(Clone, Copy, Debug, PartialEq)]
 pub struct Names {
@@ -15,25 +13,19 @@ pub struct Names {
     pub effect: EffectName,
 }
 
-fn norm_name(tokens: &mut Tokens) -> Option<NormName>
-    ensures { Reads Anything (before norm_word) Ends tokens.old result tokens.new }
+// The case of an enum whose word stands after one blank, or right here.
+pub fn word_field<T: Word>(tokens: &mut Tokens, blank: bool) -> Option<T>
+    ensures { Reads Anything (led blank T.word_of) Ends tokens.old result tokens.new }
 {
-    let text = tokens.field_text(false)?;
-    NormName::from_word(text)
-}
-
-fn effect_name(tokens: &mut Tokens) -> Option<EffectName>
-    ensures { Reads Anything (led true effect_word) Ends tokens.old result tokens.new }
-{
-    let text = tokens.field_text(true)?;
-    EffectName::from_word(text)
+    let text = tokens.field_text(blank)?;
+    T::from_word(text)
 }
 
 // The name of a norm right here, and of an effect type after one blank.
 pub fn names_fields(tokens: &mut Tokens) -> Option<Names>
     ensures { Reads Anything names_text Ends tokens.old result tokens.new }
 {
-    let norm = norm_name(tokens)?;
-    let effect = effect_name(tokens)?;
+    let norm = word_field::<NormName>(tokens, false)?;
+    let effect = word_field::<EffectName>(tokens, true)?;
     Some(Names { norm, effect })
 }

@@ -1,16 +1,15 @@
 -- What is said of an outcome.
-use Rattle.std.specs.Prelude.{ℕ, List, ◌++◌, codes, decimal}
-use Rattle.refusals.specs.Numbers.{number_of}
+use Rattle.std.specs.Prelude.{ℕ, List, Ok, Err, Result, codes}
+use Rattle.refusals.specs.Numbers.{refused_text}
+use Rattle.refusals.specs.declared.Refusal.{Refusal}
 use Rattle.history.specs.Outcomes.{Outcome}
-use Rattle.std.specs.Prelude.{Ok, Err, Some, None}
-use Rattle.replay.specs.declared.said.Said.{Said}
-use Rattle.replay.specs.declared.said.Said.TheVariants.{Done, Refused}
 
-abbrev pub said_of : {E : Type 0} → Outcome E → Said
-said_of CallDone = Done
-said_of (CallRefused e) = Refused e
-said_of (Answered a) = Done
+-- that a call is done, or its refusal
+abbrev pub said_of : {E : Type 0} → Outcome E → Result (Unit {0}) Refusal
+said_of (Ok a) = Ok tt
+said_of (Err e) = Err e
 
-abbrev pub said_text : Said → List ℕ
-said_text Done = codes "DONE"
-said_text (Refused e) = codes "REFUSED " ++ decimal (number_of e)
+-- DONE, or REFUSED with the refusal's number
+abbrev pub said_text : Result (Unit {0}) Refusal → List ℕ
+said_text (Ok u) = codes "DONE"
+said_text (Err e) = refused_text e

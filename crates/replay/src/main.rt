@@ -3,7 +3,7 @@
 
 mod said;
 
-use calls::{RecordLine, read_change, read_header};
+use calls::{Header, RecordLine, read_change, read_header};
 use effect::{EffectName, N, NM, Written};
 use history::{Call, perform};
 use lines::fault::Fault;
@@ -16,25 +16,23 @@ use sheet::Sheet;
 use std::io;
 use std::io::{BufWriter, Read, Write};
 
-// Makes the calls of the lines that are left, and says whether all of them were well formed.
+// Makes the calls of the lines that are left, up to the first that is malformed.
 fn make_calls<E: Written, M: SpecialNorm>(
     out: &mut impl Write,
     tokens: &mut Tokens,
     norm: &M,
     sheet: &mut Sheet<E>,
-) -> io::Result<bool> {
+) -> io::Result<Result<(), Fault>> {
     while !tokens.is_at_end() {
         let line = tokens.line();
         let Some(change) = read_change::<E>(tokens) else {
             let refusal = Refusal::BodyLine;
-            let fault = Fault { refusal, line };
-            writeln!(out, "{fault}")?;
-            return Ok(false);
+            return Ok(Err(Fault { refusal, line }));
         };
         let said = Said::of_outcome(perform(norm, sheet, Call::Change(change)));
         writeln!(out, "{said}")?;
     }
-    Ok(true)
+    Ok(Ok(()))
 }
 
 fn list_records<E: Written>(out: &mut impl Write, records: &[Record<E>]) -> io::Result<()> {
@@ -55,10 +53,24 @@ fn run<E: Written, M: SpecialNorm>(
 ) -> io::Result<()> {
     let memory = Vec::with_capacity(rt.alloc(), 32)?;
     let mut sheet = Sheet::<E>::open(memory, places as usize);
-    if make_calls(out, tokens, norm, &mut sheet)? {
-        list_records(out, sheet.records())?;
+    match make_calls(out, tokens, norm, &mut sheet)? {
+        Ok(()) => list_records(out, sheet.records()),
+        Err(fault) => writeln!(out, "{fault}"),
     }
-    Ok(())
+}
+
+// The same of the effect type that the first line names.
+fn run_under<M: SpecialNorm>(
+    rt: &HostRuntime,
+    out: &mut impl Write,
+    tokens: &mut Tokens,
+    norm: &M,
+    header: Header,
+) -> io::Result<()> {
+    match header.names.effect {
+        EffectName::N => run::<N, M>(rt, out, tokens, norm, header.places),
+        EffectName::Nm => run::<NM, M>(rt, out, tokens, norm, header.places),
+    }
 }
 
 fn main(rt: HostRuntime) -> io::Result<()> {
@@ -72,19 +84,9 @@ fn main(rt: HostRuntime) -> io::Result<()> {
             let fault = Fault { refusal, line: 1 };
             writeln!(out, "{fault}")?;
         }
-        Some(header) => match (header.norm, header.effect) {
-            (NormName::Sp20, EffectName::N) => {
-                run::<N, Sp20>(&rt, &mut out, &mut tokens, &Sp20, header.places)?
-            }
-            (NormName::Sp20, EffectName::Nm) => {
-                run::<NM, Sp20>(&rt, &mut out, &mut tokens, &Sp20, header.places)?
-            }
-            (NormName::Snip85, EffectName::N) => {
-                run::<N, Snip85>(&rt, &mut out, &mut tokens, &Snip85, header.places)?
-            }
-            (NormName::Snip85, EffectName::Nm) => {
-                run::<NM, Snip85>(&rt, &mut out, &mut tokens, &Snip85, header.places)?
-            }
+        Some(header) => match header.names.norm {
+            NormName::Sp20 => run_under(&rt, &mut out, &mut tokens, &Sp20, header)?,
+            NormName::Snip85 => run_under(&rt, &mut out, &mut tokens, &Snip85, header)?,
         },
     }
     out.flush()

@@ -6,30 +6,25 @@ use history::Outcome;
 use refusals::Refusal;
 use std::fmt;
 
+// That a call is done, or why it is refused.
 #[derive(Clone, Copy)]
-pub enum Said {
-    Done,
-    Refused(Refusal),
-}
+pub struct Said(pub Result<(), Refusal>);
 
 impl Said {
     pub fn of_outcome<E: Copy>(outcome: Outcome<E>) -> Said
-        ensures { result ≡ said_of outcome }
+        ensures { result.0 ≡ said_of outcome }
     {
-        match outcome {
-            Outcome::Refused(refusal) => Said::Refused(refusal),
-            _ => Said::Done,
-        }
+        Said(outcome.map(|_| ()))
     }
 }
 
 impl fmt::Display for Said {
-    ghost output = { λ x. Some (said_text x) };
+    ghost output = { λ x. Some (said_text x.0) };
 
     fn fmt<W: fmt::Write>(&self, f: &mut fmt::Formatter<W>) -> fmt::Result {
-        match *self {
-            Said::Done => write!(f, "DONE"),
-            Said::Refused(refusal) => write!(f, "REFUSED {}", refusal.number()),
+        match self.0 {
+            Ok(()) => write!(f, "DONE"),
+            Err(refusal) => write!(f, "{refusal}"),
         }
     }
 }

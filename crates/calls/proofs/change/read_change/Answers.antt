@@ -5,5 +5,5 @@ use Rattle.calls.proofs.change.read_change.Goals as goal
 pub returns : goal.returns
 returns g c =
     let w = g.E.Written.writes in
-    let all = after_name w c.args.tokens.now c.call_name.new.tokens c.arguments.new.tokens c.in_ok-name.name c.arguments.result c.in_ok-name.ensures c.arguments.ensures in
+    let all = after_name w c.args.tokens.now c.word_field.new.tokens c.arguments.new.tokens c.in_ok-name.name c.arguments.result c.in_ok-name.ensures c.arguments.ensures in
     line (change_form w g.met.E.Written.legible) c.args.tokens.now c.arguments.new.tokens c.arguments.result all

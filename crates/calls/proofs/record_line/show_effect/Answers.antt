@@ -1,4 +1,4 @@
-use Rattle.std.proofs.Common.{true, pos, refl, ◌∙◌, arith, w64, SFits, rules}
+use Rattle.std.proofs.Common.{pos, refl, ◌∙◌, arith, w64, SFits, rules}
 use Rattle.std.specs.Fmt.{signed_decimal}
 use Rattle.std.proofs.lemmas.Int.{to_z-of_z}
 use Rattle.calls.proofs.Listing.{put_none, put_next, put_all}
@@ -11,10 +11,10 @@ pub loop-place-preserved : goal.loop-place-preserved
 loop-place-preserved g c plain =
     let so_far = c.loop-place.invariant plain in
     let zs = g.E.Written.writes.numbers c.args.effect in
-    let fits : SFits w64 c.number.result = search rules in
-    put_next g.W.Write.write_str_gives c.args.f.now signed_decimal c.loop-place.f c.show_integer.new.f zs c.loop-place.place (pos 0) _
+    let fits : SFits w64 c.number-z.result = search rules in
+    put_next g.W.Write.write_str_gives c.args.f.now signed_decimal c.loop-place.f c.write.new.self zs c.loop-place.place (pos 0) _
     (omega (arith, c.loop-place-test.true, c.count-place-end.ensures, g.met.E.Written.legible.numbers_count c.args.effect))
-    (to_z-of_z w64 c.number.result fits ∙ c.number.ensures) so_far (c.in_ok-show_integer.ensures so_far.plain (refl {a = true}))
+    (to_z-of_z w64 c.number-z.result fits ∙ c.number-z.ensures) so_far (c.in_ok-write.ensures.writes so_far.plain refl)
 
 pub returns : goal.returns
 returns g c plain ok =
