@@ -65,6 +65,7 @@ pub struct NormRow {
 
 impl NormRow {
     // The row of a norm, where `long` long-term and `short` short-term loads are taken.
+    // Kept: `long` and `short` apart, as `Norm::percent` takes them; a pair of them would be made by each caller and taken apart at that call.
     pub fn of_counts(
         norm: NormName,
         combination: Combination,
