@@ -56,8 +56,8 @@ pub(crate) fn read_all(entries: &[Entry]) -> Option<[Record<N>; 32]>
     }
     let blank = record(Kind::Permanent, &Entry::default());
     let mut records = [blank; 32];
-    for k in 0..entries.len() {
-        records[k] = read(&entries[k])?;
+    for (k, entry) in entries.iter().enumerate() {
+        records[k] = read(entry)?;
     }
     Some(records)
 }

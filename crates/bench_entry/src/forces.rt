@@ -30,10 +30,7 @@ fn special<M: SpecialNorm>(norm: &M, entries: &[Entry]) -> Option<Answer<N>>
 fn force(answer: Option<Answer<N>>) -> i64
     ensures { result ≡ force_of answer }
 {
-    match answer {
-        None => i64::MIN,
-        Some(answer) => answer.effect.force,
-    }
+    answer.map_or(i64::MIN, |answer| answer.effect.force)
 }
 
 // The worst effect of a basic combination, under SNIP85 or SP20; the least number where the entries write no records.
