@@ -1,4 +1,4 @@
-use Rattle.std.proofs.Common.{◌≡◌, ◌≤◌, length, None, ap, ◌∙◌, arith, rules, take_all}
+use Rattle.std.proofs.Common.{◌≡◌, length, None, ap, ◌∙◌, arith, rules, take_all}
 use Rattle.std.proofs.lemmas.List.{length-take-le, length_push, get_or_default}
 use Rattle.std.proofs.lemmas.Grind.{get_or_default_zero}
 use Rattle.effect.specs.Sums.{total}
