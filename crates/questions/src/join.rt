@@ -13,19 +13,13 @@ use norm::Role;
 fn pick_for(role: Option<Role>) -> Pick
     ensures { result ≡ given_pick role }
 {
-    match role {
-        None => Pick::Out,
-        Some(role) => Pick::As(role),
-    }
+    role.map_or(Pick::Out, Pick::As)
 }
 
 fn taken_as(role: Option<Role>) -> Pick
     ensures { result ≡ taken_as role }
 {
-    match role {
-        None => Pick::Out,
-        Some(_) => Pick::Taken,
-    }
+    role.map_or(Pick::Out, |_| Pick::Taken)
 }
 
 impl<'a, E: Effect> RuledRecord<'a, E> {
@@ -47,6 +41,7 @@ pub(crate) fn join<E: Effect>(loads: &WeighedRecords<E>, parts: &Parts) -> [Pick
     ensures { take (length loads.now.records.now) result ≡ joined E.means loads.now.records.now parts.now }
 {
     let mut picks = [Pick::Out; 32];
+    // Kept: the place is counted, since of a zip over `picks.iter_mut()` the proof leaves open what `picks` holds after the loop.
     for (k, record) in loads.records.iter().enumerate() {
         let load = RuledRecord { record };
         picks[k] = load.place(
