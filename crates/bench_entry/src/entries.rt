@@ -47,6 +47,7 @@ fn read(entry: &Entry) -> Option<Record<N>>
     Some(record(kind, entry))
 }
 
+// Kept: the records stand in an array of 32 beside the number of entries, since the search has no heap.
 // The records that entries write, in their order; None where there are more than 32 or one writes none. Records past the last entry mean nothing.
 pub(crate) fn read_all(entries: &[Entry]) -> Option<[Record<N>; 32]>
     ensures { ReadsAll entries.now result }
@@ -56,8 +57,9 @@ pub(crate) fn read_all(entries: &[Entry]) -> Option<[Record<N>; 32]>
     }
     let blank = record(Kind::Permanent, &Entry::default());
     let mut records = [blank; 32];
-    for k in 0..entries.len() {
-        records[k] = read(&entries[k])?;
+    // Kept: the place is counted, since of a zip over `records.iter_mut()` the proof leaves open what `records` holds after the loop.
+    for (k, entry) in entries.iter().enumerate() {
+        records[k] = read(entry)?;
     }
     Some(records)
 }

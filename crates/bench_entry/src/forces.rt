@@ -30,12 +30,10 @@ fn special<M: SpecialNorm>(norm: &M, entries: &[Entry]) -> Option<Answer<N>>
 fn force(answer: Option<Answer<N>>) -> i64
     ensures { result ≡ force_of answer }
 {
-    match answer {
-        None => i64::MIN,
-        Some(answer) => answer.effect.force,
-    }
+    answer.map_or(i64::MIN, |answer| answer.effect.force)
 }
 
+// Kept: the norm comes as a bool, since these functions are called from C and Rust, which know no norm of ours.
 // The worst effect of a basic combination, under SNIP85 or SP20; the least number where the entries write no records.
 #[unsafe(no_mangle)]
 pub extern "C" fn bench_entry_basic(is_snip85: bool, entries: &[Entry]) -> i64

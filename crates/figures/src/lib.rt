@@ -13,10 +13,7 @@ fn factor(class: u64, area: u64, storeys: u64) -> u64
     requires { InRange class area storeys }
     ensures { result ≡ factor_of class area storeys }
 {
-    match reduction::factor(class, area, storeys) {
-        Ok(f) => f,
-        Err(_) => unreachable(),
-    }
+    reduction::factor(class, area, storeys).unwrap()
 }
 
 // The reduction factors of the worked cases.

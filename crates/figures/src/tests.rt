@@ -85,10 +85,7 @@ fn one_of_a_group(rt: HostRuntime) {
 }
 
 fn force(answer: Option<Answer<N>>) -> i64 {
-    match answer {
-        None => -1,
-        Some(a) => a.effect.force,
-    }
+    answer.map_or(-1, |answer| answer.effect.force)
 }
 
 #[test]

@@ -1,5 +1,5 @@
 -- The larger of two is no less than either.
-use Rattle.std.proofs.Common.{◌≡◌, ◌⊎◌, Some, None, Option, sym, refl, subst, inl, inr, ⊎_elim}
+use Rattle.std.proofs.Common.{◌≡◌, Some, None, Option, sym, refl, subst, inl, inr}
 use Rattle.effect.specs.Laws.{Operations, Laws, AtMost}
 use Rattle.effect.proofs.AtMost.{at_most_trans}
 use Rattle.questions.specs.Larger.{LargerBy, Tops, NoLess}

@@ -1,6 +1,6 @@
 -- What is known of the kinds, and the candidates of a search.
 use Rattle.std.specs.Prelude.{◌≡◌, ℕ, ◌+◌, ◌<◌, ◌≤◌, Bool, false, ◌⊎◌, List, map, length, get_or, Some, None, Option, slice_index_or}
-use Rattle.effect.specs.Laws.{Operations, AtMost, limit}
+use Rattle.effect.specs.Laws.{Operations, limit}
 use Rattle.loads.specs.declared.kinds.Kind.{Kind}
 use Rattle.loads.specs.declared.kinds.Kind.TheVariants.{LongTerm, ShortTerm, Special}
 use Rattle.loads.specs.declared.records.Record.{Record}

@@ -60,7 +60,7 @@ Reduction-prop LongTerm f = Coded-set coded_ℕ f 10000
 Reduction-prop ShortTerm f = le_prop
 Reduction-prop Special f = Coded-set coded_ℕ f 10000
 
-InRange-prop : {V : Type 0} (e : Operations V) (r : Record V) → IsProp (InRange e r)
+pub InRange-prop : {V : Type 0} (e : Operations V) (r : Record V) → IsProp (InRange e r)
 InRange-prop e r x y = λ i. record {
   reach = le_prop x.reach y.reach i;
   upper = le_prop x.upper y.upper i;

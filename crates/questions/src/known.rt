@@ -26,6 +26,7 @@ fn marks<E: Effect>(loads: &WeighedRecords<E>, kind: Kind) -> [bool; 32]
     ensures { Marks loads.now.records.now kind result }
 {
     let mut flags = [false; 32];
+    // Kept: the place is counted, since of a zip over `flags.iter_mut()` the proof leaves open what `flags` holds after the loop.
     for (i, load) in loads.records.iter().enumerate() {
         flags[i] = kind == load.kind;
     }

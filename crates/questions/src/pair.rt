@@ -6,7 +6,8 @@ ghost use Rattle.questions.specs.Engine.{PairBest, Prepared, Room, four, part_to
 use crate::choice::PartChoice;
 use crate::known::Known;
 use crate::percents::Numbers;
-use crate::rated::{Rated, WHOLE, WeighedRecords};
+use crate::rated::{Rated, WHOLE};
+use crate::worst::Search;
 use combination::Question;
 use effect::Effect;
 
@@ -63,41 +64,42 @@ fn together<E: Effect>(
     permanent.sum(taken)
 }
 
-// The best candidate among the choices that take these numbers of long-term and short-term loads.
-pub(crate) fn pair<E: Effect>(
-    question: Question,
-    loads: &WeighedRecords<E>,
-    tables: &Tables<E>,
-    granted: combination::Table,
-    numbers: Numbers,
-) -> Option<Candidate<E>>
-    requires prepared { Prepared E.means loads.now.records.now tables.now }
-    requires by_long { tables.now.long.percents ≡ Some granted.long }
-    requires by_short { tables.now.short.percents ≡ Some granted.short }
-    requires longs { numbers.long ≤ tables.now.long.table.limit }
-    requires shorts { numbers.short ≤ tables.now.short.table.limit }
-    ensures { PairBest E.means question loads.now.records.now granted numbers result }
-{
-    let by_long = Rated {
-        loads,
-        percents: granted.long,
-    };
-    let by_short = Rated {
-        loads,
-        percents: granted.short,
-    };
-    let whole = Rated {
-        loads,
-        percents: WHOLE,
-    };
-    let long = tables.long.best(&by_long, numbers.long)?;
-    let short = tables.short.best(&by_short, numbers.short)?;
-    let special = tables.special.best(&whole, specials(question))?;
-    let parts = Parts {
-        long,
-        short,
-        special,
-    };
-    let effect = together(tables.permanent, &by_long, &by_short, &whole, &parts);
-    Some(Candidate { effect, parts })
+impl<'a, E: Effect, M> Search<'a, E, M> {
+    // The best candidate among the choices that take these numbers of long-term and short-term loads.
+    pub(crate) fn pair(
+        &self,
+        tables: &Tables<E>,
+        granted: combination::Table,
+        numbers: Numbers,
+    ) -> Option<Candidate<E>>
+        requires prepared { Prepared E.Effect.means self.now.loads.now.records.now tables.now }
+        requires by_long { tables.now.long.percents ≡ Some granted.long }
+        requires by_short { tables.now.short.percents ≡ Some granted.short }
+        requires longs { numbers.long ≤ tables.now.long.table.limit }
+        requires shorts { numbers.short ≤ tables.now.short.table.limit }
+        ensures { PairBest E.Effect.means self.now.question self.now.loads.now.records.now granted numbers result }
+    {
+        let by_long = Rated {
+            loads: self.loads,
+            percents: granted.long,
+        };
+        let by_short = Rated {
+            loads: self.loads,
+            percents: granted.short,
+        };
+        let whole = Rated {
+            loads: self.loads,
+            percents: WHOLE,
+        };
+        let long = tables.long.best(&by_long, numbers.long)?;
+        let short = tables.short.best(&by_short, numbers.short)?;
+        let special = tables.special.best(&whole, specials(self.question))?;
+        let parts = Parts {
+            long,
+            short,
+            special,
+        };
+        let effect = together(tables.permanent, &by_long, &by_short, &whole, &parts);
+        Some(Candidate { effect, parts })
+    }
 }

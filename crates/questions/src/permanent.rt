@@ -3,13 +3,12 @@ ghost use Rattle.std.specs.Prelude.{◌≡◌, if◌then◌else◌};
 ghost use Rattle.combination.specs.Choices.{is_lower};
 ghost use Rattle.combination.specs.Worst.{permanent as at_factor};
 ghost use Rattle.questions.specs.Engine.{fixed_best};
-ghost use Rattle.questions.specs.Items.{InRange};
 ghost use Rattle.questions.specs.Parts.{best_factor, fixed as part_of};
 
-use crate::rated::WeighedRecords;
+use crate::rated::{RuledRecord, WeighedRecords};
 use combination::Pick;
 use effect::Effect;
-use loads::{Kind, Record};
+use loads::Kind;
 use std::cmp::Ordering;
 
 fn chosen(pick: Pick, lower: u64, upper: u64) -> u64
@@ -18,34 +17,35 @@ fn chosen(pick: Pick, lower: u64, upper: u64) -> u64
     if pick.is_lower() { lower } else { upper }
 }
 
-// A permanent load at the factor of a pick.
-fn at_factor<E: Effect>(load: &Record<E>, pick: Pick) -> E
-    requires { InRange E.means load.now }
-    ensures { result ≡ at_factor E.means pick load.now }
-{
-    let factor = chosen(pick, load.load.lower, load.load.upper);
-    load.load.effect.multiple(factor * 1_000_000)
-}
-
-// The factor by which a permanent load comes to the most.
-pub(crate) fn factor<E: Effect>(load: &Record<E>) -> Pick
-    requires { InRange E.means load.now }
-    ensures { result ≡ best_factor E.means load.now }
-{
-    match at_factor(load, Pick::Lower).compare(at_factor(load, Pick::Upper)) {
-        Ordering::Less | Ordering::Equal => Pick::Upper,
-        Ordering::Greater => Pick::Lower,
+impl<'a, E: Effect> RuledRecord<'a, E> {
+    // A permanent load at the factor of a pick.
+    fn at_factor(&self, pick: Pick) -> E
+        ensures { result ≡ at_factor E.means pick self.now.record.now }
+    {
+        let load = &self.record.load;
+        let factor = chosen(pick, load.lower, load.upper);
+        load.effect.multiple(factor * 1_000_000)
     }
-}
 
-// What a record adds if it is permanent.
-fn permanent_part<E: Effect>(load: &Record<E>) -> E
-    requires { InRange E.means load.now }
-    ensures { result ≡ part_of E.means load.now.kind (best_factor E.means load.now) load.now }
-{
-    match load.kind {
-        Kind::Permanent => at_factor(load, factor(load)),
-        Kind::LongTerm | Kind::ShortTerm | Kind::Special => E::zero(),
+    // The factor by which a permanent load comes to the most.
+    pub(crate) fn best_factor(&self) -> Pick
+        ensures { result ≡ best_factor E.means self.now.record.now }
+    {
+        let by_lower = self.at_factor(Pick::Lower);
+        match by_lower.compare(self.at_factor(Pick::Upper)) {
+            Ordering::Less | Ordering::Equal => Pick::Upper,
+            Ordering::Greater => Pick::Lower,
+        }
+    }
+
+    // What the record adds if it is permanent.
+    fn permanent_part(&self) -> E
+        ensures { result ≡ part_of E.means self.now.record.now.kind (best_factor E.means self.now.record.now) self.now.record.now }
+    {
+        match self.record.kind {
+            Kind::Permanent => self.at_factor(self.best_factor()),
+            Kind::LongTerm | Kind::ShortTerm | Kind::Special => E::zero(),
+        }
     }
 }
 
@@ -54,8 +54,9 @@ pub(crate) fn permanent_sum<E: Effect>(loads: &WeighedRecords<E>) -> E
     ensures { result ≡ fixed_best E.means loads.now.records.now }
 {
     let mut sum = E::zero();
-    for load in loads.records {
-        sum = sum.sum(permanent_part(load));
+    for record in loads.records {
+        let load = RuledRecord { record };
+        sum = sum.sum(load.permanent_part());
     }
     sum
 }

@@ -1,6 +1,6 @@
 // Records that keep the rules, with what their contributions are reckoned by.
 ghost use Rattle.std.specs.Prelude.{◌≡◌};
-ghost use Rattle.questions.specs.Items.{Kept, Kept-prop, Weighed, Whole, Whole-prop};
+ghost use Rattle.questions.specs.Items.{InRange, InRange-prop, Kept, Kept-prop, Weighed, Whole, Whole-prop};
 
 use combination::Percents;
 use effect::Effect;
@@ -12,6 +12,13 @@ pub(crate) const WHOLE: Percents = Percents {
     second: 100,
     other: 100,
 };
+
+// A record that keeps the rules.
+#[derive(Drop)]
+pub(crate) struct RuledRecord<'a, E: Effect> {
+    pub record: &'a Record<E>,
+    ghost in_range: { InRange E.means record.now } by { InRange-prop E.means record.now },
+}
 
 // Records that keep the rules, and the weight of each in their order: its upper factor times its reduction factor. Weights past the last record mean nothing.
 #[derive(Drop)]

@@ -9,7 +9,7 @@ use effect::Effect;
 use norm::Role;
 
 // By whether roles 1 and 2 are given; None where no choice is so.
-#[derive(Clone, Copy)]
+#[derive(Clone, Copy, Default)]
 pub(crate) struct Row {
     pub neither: Option<PartChoice>,
     pub leading: Option<PartChoice>,

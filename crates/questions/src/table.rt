@@ -28,13 +28,7 @@ impl Table {
     pub(crate) fn blank(limit: usize) -> Table
         ensures { result ≡ blank_table limit }
     {
-        let empty = Row {
-            neither: None,
-            leading: None,
-            second: None,
-            both: None,
-        };
-        let mut rows = [empty; 33];
+        let mut rows = [Row::default(); 33];
         rows[0].neither = Some(PartChoice { roles: [None; 32] });
         Table {
             rows,

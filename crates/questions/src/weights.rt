@@ -45,6 +45,7 @@ pub(crate) fn weigh<E: Effect>(records: &[Record<E>]) -> Option<WeighedRecords<'
         return None;
     }
     let mut weights = [0; 32];
+    // Kept: the place is counted, since of a zip over `weights.iter_mut()` the proof leaves open what `weights` holds after the loop.
     for (k, load) in records.iter().enumerate() {
         weights[k] = weight(load)?;
     }

@@ -9,7 +9,7 @@ ghost use Rattle.questions.specs.Tables.{TakesAtMost};
 use crate::groups::Wanted;
 use crate::known::Known;
 use crate::larger::larger_by;
-use crate::pair::{Candidate, Tables, pair};
+use crate::pair::{Candidate, Tables};
 use crate::percents::Numbers;
 use crate::permanent::permanent_sum;
 use crate::rated::{Rated, WHOLE, WeighedRecords};
@@ -18,6 +18,8 @@ use effect::Effect;
 use loads::Kind;
 use norm::{Norm, Term};
 
+// Kept: what `Prepared` says stays a clause of the functions that use the tables. As an invariant of the tables it would need a reference to the records in each of
+// them, a fact for each that these are the same, and for each of its parts a proof that it has one proof at most.
 // What is known before any number is tried.
 fn tables_of<E: Effect>(loads: &WeighedRecords<E>) -> Tables<E>
     ensures { Prepared E.means loads.now.records.now result }
@@ -88,7 +90,7 @@ impl<'a, E: Effect, M: Norm> Search<'a, E, M> {
             long: of_long,
             short: of_short,
         };
-        let found = pair(self.question, loads, tables, granted, numbers);
+        let found = self.pair(tables, granted, numbers);
         larger_by(|candidate| candidate.effect, best, found)
     }
 

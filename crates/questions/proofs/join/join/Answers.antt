@@ -6,7 +6,7 @@ pub loop-k-init : goal.loop-k-init
 loop-k-init g c = joining_none g.E.Effect.means c.args.loads.now.records.now c.args.parts.now _ refl
 
 pub loop-k-preserved : goal.loop-k-preserved
-loop-k-preserved g c = joining_more g.E.Effect.means c.args.loads.now.records.now c.args.parts.now c.loop-k.picks c.loop-k.k c.place.result c.load-item.result c.loop-k-test.true c.args.loads.now.kept.few c.load-item.is c.place.ensures c.loop-k.invariant
+loop-k-preserved g c = joining_more g.E.Effect.means c.args.loads.now.records.now c.args.parts.now c.loop-k.picks c.loop-k.k c.place.result c.record-item.result c.loop-k-test.true c.args.loads.now.kept.few c.record-item.is c.place.ensures c.loop-k.invariant
 
 pub returns : goal.returns
 returns g c = joining_all g.E.Effect.means c.args.loads.now.records.now c.args.parts.now c.loop-k.picks c.loop-k.k c.args.loads.now.kept.few c.loop-k-test.false c.loop-k.invariant

@@ -5,14 +5,14 @@ use Rattle.questions.specs.Parts.{fixed, best_factor}
 use Rattle.questions.proofs.Marking.{bests, bests_total, fixed_turn}
 use Rattle.questions.proofs.permanent.permanent_sum.Goals as goal
 
-pub loop-load-init : goal.loop-load-init
-loop-load-init g c = c.zero-sum.ensures
+pub loop-record-init : goal.loop-record-init
+loop-record-init g c = c.zero-sum.ensures
 
-pub loop-load-preserved : goal.loop-load-preserved
-loop-load-preserved g c = fixed_turn g.met.E.Effect.lawful c.args.loads.now.records.now c.args.loads.now.kept c.loop-load.load-index c.load-item.result c.permanent_part.result c.loop-load.sum c.sum-sum.result c.loop-load-test.true c.load-item.is c.permanent_part.ensures c.loop-load.invariant c.sum-sum.ensures
+pub loop-record-preserved : goal.loop-record-preserved
+loop-record-preserved g c = fixed_turn g.met.E.Effect.lawful c.args.loads.now.records.now c.args.loads.now.kept c.loop-record.record-index c.record-item.result c.permanent_part.result c.loop-record.sum c.sum-sum.result c.loop-record-test.true c.record-item.is c.permanent_part.ensures c.loop-record.invariant c.sum-sum.ensures
 
 pub returns : goal.returns
 returns g c =
     let e = g.E.Effect.means in
     let rs = c.args.loads.now.records.now in
-    c.loop-load.invariant ∙ ap (total e) (take_all c.loop-load.load-index (bests e rs) (omega (arith, c.loop-load-test.false, length-map rs (λ r. fixed e r.kind (best_factor e r) r)))) ∙ bests_total e rs
+    c.loop-record.invariant ∙ ap (total e) (take_all c.loop-record.record-index (bests e rs) (omega (arith, c.loop-record-test.false, length-map rs (λ r. fixed e r.kind (best_factor e r) r)))) ∙ bests_total e rs

@@ -4,7 +4,7 @@ use Rattle.questions.specs.Items.{items_of}
 use Rattle.questions.specs.PartChoices.{worths, chosen}
 use Rattle.questions.proofs.rated.Rated.total.Given as goal
 
-abbrev pub invariant-loop-load : goal.invariant-loop-load
-invariant-loop-load g l =
+abbrev pub invariant-loop-record : goal.invariant-loop-record
+invariant-loop-record g l =
     let items = items_of g.E.Effect.means l.self.percents l.self.loads.now.records.now in
     l.sum ≡ total g.E.Effect.means (take (length l.yielded) (worths g.E.Effect.means items (chosen items l.choice)))
