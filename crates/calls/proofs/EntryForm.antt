@@ -1,6 +1,6 @@
 -- The arguments of an entry, part by part.
 -- Assumes nothing.
-use Rattle.std.proofs.Common.{◌≡◌, ℕ, ◌-◌, ◌≤◌, true, cond, List, [], ◌∷◌, length, get_or, take, ℤ, pos, decimal, sym, refl, ap, ◌∙◌, subst, arith, length-take}
+use Rattle.std.proofs.Common.{◌+◌, ◌≡◌, ℕ, ◌≤◌, true, cond, List, [], ◌∷◌, get_or, decimal, sym, refl, ap, ◌∙◌, subst, arith}
 use Rattle.std.specs.Fmt.{signed_decimal}
 use Rattle.std.specs.List.{AllByRecursion}
 use Rattle.effect.specs.Notations.{Notation, NotationLaws}
@@ -37,13 +37,6 @@ start = record {
 abbrev load_of : {E : Type 0} → List ℕ → E → Load E
 load_of xs e = record { group = get_or xs 0 0; upper = get_or xs 1 0; lower = get_or xs 2 0; class = get_or xs 3 0; area = get_or xs 4 0; storeys = get_or xs 5 0; effect = e }
 
--- how many places of the buffer are lent
-abbrev pub lent : ℕ → ℕ
-lent n = length (take {A = ℤ} (n - 0) (pos 0 ∷ (pos 0 ∷ (pos 0 ∷ (pos 0 ∷ [])))))
-
-pub lent_is : (n count : ℕ) → n ≡ count → n ≤ 4 → lent n ≡ count
-lent_is n count e few = simp length-take (omega arith)
-
 module _ {E : Type 0} (w : Notation E) (laws : NotationLaws w) where
   -- n numbers, as many as write an effect
   pub effect_line : (n : ℕ) → n ≡ w.count → w.count ≤ 4 → Sequence 0 (Row ShortZ n) (spaced signed_decimal) (EndsAfter n) (λ zs. Anything) (λ zs. before (byte 10)) Anything (λ zs u. w.value zs) (LegibleEffect w) (effect_end w)
@@ -54,6 +47,10 @@ module _ {E : Type 0} (w : Notation E) (laws : NotationLaws w) where
     joined = λ zs u t ok any. ap (λ l. spaced signed_decimal l (10 ∷ t)) (laws.numbers_value zs (ok.0 ∙ all));
     parts = λ e ok. (w.numbers e, tt, sym (laws.value_numbers e), (laws.numbers_count e ∙ sym all, ok.1), tt);
   }
+
+  -- n places of four are lent for the k numbers of an effect
+  pub lent_line : (n k : ℕ) → k ≡ w.count → k ≤ 4 → n + 0 ≡ k → Sequence 0 (Row ShortZ n) (spaced signed_decimal) (EndsAfter n) (λ zs. Anything) (λ zs. before (byte 10)) Anything (λ zs u. w.value zs) (LegibleEffect w) (effect_end w)
+  lent_line n k count few long = effect_line n (omega arith) (omega arith)
 
   effect_form : Form 1 (LegibleEffect w) (effect_end w) Anything
   effect_form = record {

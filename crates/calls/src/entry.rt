@@ -40,12 +40,8 @@ fn effect_line<E: Written>(tokens: &mut Tokens) -> Option<E>
     ensures { Reads (LegibleEffect E.Written.writes) (effect_end E.Written.writes) Anything tokens.old result tokens.new }
 {
     let mut numbers = [0i64; 4];
-    let count = E::count();
-    if count > 4 {
-        return None;
-    }
-    let part = &mut numbers[0..count];
-    tokens.integer_fields(part)?;
+    let part = numbers.get_mut(..E::count())?;
+    tokens.fields_into(part)?;
     tokens.line_end()?;
     Some(E::from_numbers(part))
 }

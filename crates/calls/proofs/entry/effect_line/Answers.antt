@@ -1,24 +1,23 @@
-use Rattle.std.proofs.Common.{◌≤◌, Some, sym, subst, arith}
+use Rattle.std.proofs.Common.{Some, sym, subst}
 use Rattle.lines.specs.Reading.{Anything, Reads}
-use Rattle.lines.proofs.Sequences.{no_second, both}
+use Rattle.lines.proofs.Sequences.{no_first, no_second, both}
 use Rattle.calls.specs.Entries.{LegibleEffect, effect_end}
-use Rattle.calls.proofs.EntryForm as form
-use Rattle.calls.proofs.EntryForm.{lent, lent_is}
+use Rattle.calls.proofs.EntryForm.{lent_line}
 use Rattle.calls.proofs.entry.effect_line.Goals as goal
+
+pub returns-in_err-fields_into : goal.returns-in_err-fields_into
+returns-in_err-fields_into g c =
+    let q = lent_line g.E.Written.writes g.met.E.Written.legible _ _ c.count.ensures c.in_ok-part.ensures.lookup.0.1 c.in_ok-part.ensures.lookup.0.3 in
+    rw c.from_residual-in_err-fields_into.ensures (no_first q c.args.tokens.now c.fields_into.new.self c.in_err-fields_into.ensures)
 
 pub returns-in_err-line_end : goal.returns-in_err-line_end
 returns-in_err-line_end g c =
-    let n = c.count-count.result in
-    let w = g.E.Written.writes in
-    let few : w.count ≤ 4 = omega (arith, c.count-count.ensures, c.if-count-gt4.false) in
-    let q = form.effect_line w g.met.E.Written.legible (lent n) (lent_is n w.count c.count-count.ensures c.if-count-gt4.false) few in
-    rw c.from_residual-in_err-line_end.ensures (no_second q c.args.tokens.now c.integer_fields.new.self c.line_end.new.self c.integer_fields.new.out c.in_ok-integer_fields.ensures c.in_err-line_end.ensures)
+    let q = lent_line g.E.Written.writes g.met.E.Written.legible _ _ c.count.ensures c.in_ok-part.ensures.lookup.0.1 c.in_ok-part.ensures.lookup.0.3 in
+    rw c.from_residual-in_err-line_end.ensures (no_second q c.args.tokens.now c.fields_into.new.self c.line_end.new.self c.fields_into.new.out c.in_ok-fields_into.ensures c.in_err-line_end.ensures)
 
 pub returns : goal.returns
 returns g c =
-    let n = c.count-count.result in
     let w = g.E.Written.writes in
-    let few : w.count ≤ 4 = omega (arith, c.count-count.ensures, c.if-count-gt4.false) in
-    let q = form.effect_line w g.met.E.Written.legible (lent n) (lent_is n w.count c.count-count.ensures c.if-count-gt4.false) few in
+    let q = lent_line w g.met.E.Written.legible _ _ c.count.ensures c.in_ok-part.ensures.lookup.0.1 c.in_ok-part.ensures.lookup.0.3 in
     subst (λ e. Reads (LegibleEffect w) (effect_end w) Anything c.args.tokens.now (Some e) c.line_end.new.self) (sym c.from_numbers.ensures)
-    (both q c.args.tokens.now c.integer_fields.new.self c.line_end.new.self c.integer_fields.new.out tt c.in_ok-integer_fields.ensures c.in_ok-line_end.ensures)
+    (both q c.args.tokens.now c.fields_into.new.self c.line_end.new.self c.fields_into.new.out tt c.in_ok-fields_into.ensures c.in_ok-line_end.ensures)
