@@ -7,33 +7,18 @@ ghost use Rattle.answer_lines.specs.Lines.{answer_text};
 use crate::choices::write_choice;
 use combination::{Answer, Choice, Question};
 use effect::Written;
+use load_lines::write_effect;
 use loads::Record;
 use norm::Norm;
 use words::Word;
-use writing::Writer;
-
-fn fixed_field(out: &mut Writer, z: i64)
-    ensures { Writes out.old (32 ∷ signed_fixed8 z) out.new }
-{
-    out.put(b' ');
-    out.signed_fixed(z);
-}
-
-// The numbers of an effect with eight decimals, each after one blank.
-fn write_effect<E: Written>(out: &mut Writer, effect: E)
-    ensures { Writes out.old (spaced signed_fixed8 (E.Written.writes.numbers effect) []) out.new }
-{
-    for place in 0..E::count() {
-        fixed_field(out, effect.number(place));
-    }
-}
+use writing::{Decimals, Writer};
 
 // The line of the question, by its word.
 fn write_head<E: Written>(out: &mut Writer, word: &[u8], effect: E)
     ensures { Writes out.old (word.now ++ spaced signed_fixed8 (E.Written.writes.numbers effect) (10 ∷ [])) out.new }
 {
     out.word(word);
-    write_effect(out, effect);
+    write_effect::<E, Decimals>(out, effect);
     out.put(b'\n');
 }
 

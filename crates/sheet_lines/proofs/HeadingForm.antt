@@ -1,9 +1,11 @@
 -- The first two lines, part by part.
 -- Assumes nothing.
-use Rattle.std.proofs.Common.{◌≡◌, ℕ, Bool, true, false, List, ◌∷◌, Some, None, decimal, Option, refl, arith}
+use Rattle.std.proofs.Common.{Decides, ◌≡◌, ℕ, Bool, true, false, List, ◌∷◌, Some, None, decimal, Option, refl, arith}
 use Rattle.loads.specs.declared.kinds.Kind.{Kind}
 use Rattle.loads.specs.declared.kinds.Kind.TheVariants.{Permanent, LongTerm, ShortTerm, Special}
-use Rattle.lines.specs.Numeral.{Short}
+use borrow.Author.Tests.{clash}
+use Rattle.std.specs.Bool.{then_some}
+use Rattle.lines.specs.Numeral.{Short, Spelt}
 use Rattle.lines.specs.Reading.{Anything, Ends, FieldText, Reads, before, byte, led}
 use Rattle.lines.specs.declared.token.Tokens.{Tokens}
 use Rattle.lines.proofs.Readings.{decimal_token}
@@ -116,3 +118,8 @@ counts_line_lem = form counts (λ n ok. form long_term_counts (λ l ok'. form sh
 pub after_letter : (b : Bool) (k : Kind) (s u z : Tokens) (r : Option ℕ) → Reads Anything (led b (kind_text k)) Ends s (Some tt) u → Reads Few (led true decimal) Ends u r z → Reads Few (count_text b k) Ends s r z
 after_letter b k s u z (Some n) got next = both (count b k) s u z tt n got next
 after_letter b k s u z None got none = no_second (count b k) s u z tt got none
+
+-- a text that is the letter of a kind, or not
+pub letter_told : (k : Kind) (text : List ℕ) (b : Bool) (r : Option (Unit {0})) → Decides b (text ≡ kind_text k tt) → r ≡ then_some b tt → Spelt Anything (kind_text k) text r
+letter_told k text true r told e = rw e (tt, told.0 refl)
+letter_told k text false r told e = rw e (λ u any same. clash (told.1 same))

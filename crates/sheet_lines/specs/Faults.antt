@@ -5,4 +5,4 @@ use Rattle.sheet_lines.specs.declared.fault.TextFault.{TextFault}
 
 -- REFUSED n LINE k, as any fault in a line
 abbrev pub text_fault_text : TextFault → List ℕ
-text_fault_text x = fault_text (record { refusal = x.refusal; line = x.line })
+text_fault_text x = fault_text x.fault

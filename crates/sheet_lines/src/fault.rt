@@ -3,7 +3,6 @@ ghost use Rattle.std.specs.Prelude.{Some};
 ghost use Rattle.sheet_lines.specs.Faults.{text_fault_text};
 
 use lines::fault::Fault;
-use refusals::Refusal;
 use std::fmt;
 
 // Where a refusal comes from.
@@ -17,11 +16,10 @@ pub enum Layer {
     Writing,
 }
 
-// A refusal with its line, counted from 1, or 0 where it is of no line.
+// A refusal with its line, counted from 1, or 0 where it is of no line, and where it comes from.
 #[derive(Clone, Copy, Debug, PartialEq)]
 pub struct TextFault {
-    pub refusal: Refusal,
-    pub line: usize,
+    pub fault: Fault,
     pub layer: Layer,
 }
 
@@ -29,10 +27,6 @@ impl fmt::Display for TextFault {
     ghost output = { λ x. Some (text_fault_text x) };
 
     fn fmt<W: fmt::Write>(&self, f: &mut fmt::Formatter<W>) -> fmt::Result {
-        let fault = Fault {
-            refusal: self.refusal,
-            line: self.line,
-        };
-        write!(f, "{fault}")
+        write!(f, "{}", self.fault)
     }
 }

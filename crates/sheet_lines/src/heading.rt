@@ -1,6 +1,5 @@
 // The first two lines: the names, and the counts of the kinds.
-ghost use Rattle.std.specs.Prelude.{true, decimal};
-ghost use Rattle.lines.specs.Numeral.{Spelt};
+ghost use Rattle.std.specs.Prelude.{◌≡◌, true, decimal, Decides};
 ghost use Rattle.lines.specs.Reading.{Anything, Ends, Reads, ReadsLine, led};
 ghost use Rattle.sheet_lines.specs.Heading.{Few, LegibleCounts, count_text, counts_line, kind_text, names_line};
 
@@ -19,14 +18,10 @@ pub fn read_names(tokens: &mut Tokens) -> Option<Names>
 }
 
 // Whether a text is the letter of a kind.
-fn is_letter(text: &[u8], kind: Kind) -> Option<()>
-    ensures { Spelt Anything (kind_text kind) text.now result }
+fn is_letter(text: &[u8], kind: Kind) -> bool
+    ensures { Decides result (text.now ≡ kind_text kind tt) }
 {
-    if text.len() == 1 && text[0] as char == kind.letter() {
-        Some(())
-    } else {
-        None
-    }
+    matches!(text, [byte] if *byte as char == kind.letter())
 }
 
 // The letter of a kind, after one blank or right here.
@@ -34,7 +29,7 @@ fn letter(tokens: &mut Tokens, blank: bool, kind: Kind) -> Option<()>
     ensures { Reads Anything (led blank (kind_text kind)) Ends tokens.old result tokens.new }
 {
     let text = tokens.field_text(blank)?;
-    is_letter(text, kind)
+    is_letter(text, kind).then_some(())
 }
 
 // A number of at most 99, after one blank.
@@ -57,6 +52,7 @@ fn count(tokens: &mut Tokens, blank: bool, kind: Kind) -> Option<u64>
 }
 
 // The line of the counts, from its start; the cursor goes past its line end.
+// Kept: each count has a field of its own name, and no blank stands before the first; a loop over the kinds would need places and a flag.
 pub fn read_counts(tokens: &mut Tokens) -> Option<Counts>
     ensures { ReadsLine LegibleCounts counts_line tokens.old result tokens.new }
 {

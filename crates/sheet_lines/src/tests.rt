@@ -4,6 +4,7 @@ use crate::counts::Counts;
 use crate::fault::{Layer, TextFault};
 use crate::heading::{read_counts, read_names};
 use effect::N;
+use lines::fault::Fault;
 use lines::token::Tokens;
 use refusals::Refusal;
 use std::test::Fail;
@@ -77,8 +78,10 @@ fn a_body_has_eight_fields(rt: HostRuntime) {
 #[test]
 fn a_fault_is_shown_by_number_and_line(rt: HostRuntime) -> Result<(), Fail> {
     let fault = TextFault {
-        refusal: Refusal::NumberTaken,
-        line: 4,
+        fault: Fault {
+            refusal: Refusal::NumberTaken,
+            line: 4,
+        },
         layer: Layer::Sheet,
     };
     let text = fault.to_string(rt.alloc())?;

@@ -24,11 +24,11 @@ use Rattle.sheet_lines.specs.declared.fault.TextFault.{TextFault}
 
 -- line k is not of the form, is missing or is too many
 abbrev pub misread : Refusal → ℕ → TextFault
-misread e k = record { refusal = e; line = k; layer = Reading }
+misread e k = record { fault = record { refusal = e; line = k }; layer = Reading }
 
 -- the sheet refuses the entry of line k
 abbrev pub barred : Refusal → ℕ → TextFault
-barred e k = record { refusal = e; line = k; layer = SheetLayer }
+barred e k = record { fault = record { refusal = e; line = k }; layer = SheetLayer }
 
 -- the places of a sheet, where so many are asked for and the memory has room for so many
 abbrev pub places_in : ℕ → ℕ → ℕ

@@ -2,6 +2,7 @@
 ghost use Rattle.std.specs.Prelude.{◌≡◌};
 ghost use Rattle.sheet_text.specs.Texts.{barred, misread};
 
+use lines::fault::Fault;
 use refusals::Refusal;
 use sheet_lines::{Layer, TextFault};
 
@@ -10,8 +11,7 @@ pub(crate) fn reading_fault(refusal: Refusal, line: usize) -> TextFault
     ensures { result ≡ misread refusal line }
 {
     TextFault {
-        refusal,
-        line,
+        fault: Fault { refusal, line },
         layer: Layer::Reading,
     }
 }
@@ -21,8 +21,7 @@ pub(crate) fn sheet_fault(refusal: Refusal, line: usize) -> TextFault
     ensures { result ≡ barred refusal line }
 {
     TextFault {
-        refusal,
-        line,
+        fault: Fault { refusal, line },
         layer: Layer::Sheet,
     }
 }

@@ -2,6 +2,7 @@
 use crate::sheets::read_text;
 use crate::start::text_names;
 use effect::{EffectName, N};
+use lines::fault::Fault;
 use refusals::Refusal;
 use sheet::Sheet;
 use sheet_lines::{Layer, TextFault};
@@ -32,8 +33,7 @@ fn is_refused(
     layer: Layer,
 ) -> Result<bool, Fail> {
     let fault = TextFault {
-        refusal,
-        line,
+        fault: Fault { refusal, line },
         layer,
     };
     Ok(read(rt, text)?.err() == Some(fault))

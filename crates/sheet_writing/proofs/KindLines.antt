@@ -1,6 +1,6 @@
 -- The records of a kind, one by one, and their lines.
 -- Assumes nothing.
-use Rattle.std.proofs.Common.{◌≡◌, ℕ, ◌+◌, Bool, true, false, cond, List, [], ◌∷◌, ◌++◌, length, decimal, sym, refl, ap, ◌∙◌, append_assoc, length-append}
+use Rattle.std.proofs.Common.{cond, ◌≡◌, ℕ, true, false, cond, List, [], ◌∷◌, ◌++◌, decimal, sym, refl, ap, ◌∙◌, append_assoc}
 use Rattle.std.specs.Fmt.{signed_decimal}
 use Rattle.effect.specs.Notations.{Notation}
 use Rattle.loads.specs.declared.kinds.Kind.{Kind}
@@ -12,14 +12,6 @@ use Rattle.load_lines.specs.Loads.{load_end, load_text, load_numbers}
 use Rattle.sheet_lines.specs.Bodies.{body_line, body_lines}
 use Rattle.lines.proofs.Rows.{spaced_append}
 use Rattle.sheet_writing.specs.Sheets.{of_kind}
-
-module _ {E : Type 0} where
-  count_if : (b : Bool) (r : Record E) → length (cond b (r ∷ []) []) ≡ cond b 1 0
-  count_if true r = refl
-  count_if false r = refl
-
-  pub count_more : (k : Kind) (r : Record E) (rs : List (Record E)) → length (of_kind k (r ∷ rs)) ≡ cond (is_of_kind k r.kind) 1 0 + length (of_kind k rs)
-  count_more k r rs = length-append (cond (is_of_kind k r.kind) (r ∷ []) []) (of_kind k rs) ∙ ap (λ n. n + length (of_kind k rs)) (count_if (is_of_kind k r.kind) r)
 
 module _ {E : Type 0} (w : Notation E) where
   text_append : (x : Load E) (s t : List ℕ) → load_text w x s ++ t ≡ load_text w x (s ++ t)
@@ -36,3 +28,10 @@ module _ {E : Type 0} (w : Notation E) where
   pub bodies_append : (a b : List (Record E)) → body_lines w (a ++ b) ≡ body_lines w a ++ body_lines w b
   bodies_append [] b = refl
   bodies_append (r ∷ a) b = ap (body_line w (r.number, r.load)) (bodies_append a b) ∙ sym (body_append (r.number, r.load) (body_lines w a) (body_lines w b))
+
+  -- the first record is of the kind, or is not
+  pub kind_in : (k : Kind) (r : Record E) (rs : List (Record E)) → is_of_kind k r.kind ≡ true → body_lines w (of_kind k (r ∷ rs)) ≡ body_line w (r.number, r.load) [] ++ body_lines w (of_kind k rs)
+  kind_in k r rs e = ap (λ b. body_lines w (cond b (r ∷ of_kind k rs) (of_kind k rs))) e ∙ sym (body_append (r.number, r.load) [] (body_lines w (of_kind k rs)))
+
+  pub kind_out : (k : Kind) (r : Record E) (rs : List (Record E)) → is_of_kind k r.kind ≡ false → body_lines w (of_kind k (r ∷ rs)) ≡ body_lines w (of_kind k rs)
+  kind_out k r rs e = ap (λ b. body_lines w (cond b (r ∷ of_kind k rs) (of_kind k rs))) e

@@ -1,5 +1,6 @@
 -- The text of a sheet: the names, the counts, and the records kind after kind.
-use Rattle.std.specs.Prelude.{ℕ, cond, List, [], ◌∷◌, ◌++◌, length}
+use Rattle.std.specs.Prelude.{ℕ, List, ◌++◌, length}
+use Rattle.std.specs.List.{filter}
 use Rattle.effect.specs.Notations.{Notation}
 use Rattle.loads.specs.declared.kinds.Kind.{Kind}
 use Rattle.loads.specs.declared.kinds.Kind.TheVariants.{Permanent, LongTerm, ShortTerm, Special}
@@ -13,8 +14,7 @@ use Rattle.sheet_lines.specs.declared.counts.Counts.{Counts}
 module _ {E : Type 0} where
   -- the records of a kind, in the order of their entry
   abbrev pub of_kind : Kind → List (Record E) → List (Record E)
-  of_kind k [] = []
-  of_kind k (r ∷ rs) = cond (is_of_kind k r.kind) (r ∷ []) [] ++ of_kind k rs
+  of_kind k rs = filter (λ r. is_of_kind k r.kind) rs
 
   -- kind after kind, in the order P, L, T and S
   abbrev pub by_kind : List (Record E) → List (Record E)

@@ -28,6 +28,7 @@ fn write_count(out: &mut Writer, kind: Kind, count: u64)
 }
 
 // The line of the counts.
+// Kept: each count has a field of its own name, and no blank stands before the first; a loop over the kinds would need places and a flag.
 pub(crate) fn write_counts(out: &mut Writer, counts: Counts)
     ensures { Writes out.old (counts_line counts []) out.new }
 {

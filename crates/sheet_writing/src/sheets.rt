@@ -22,6 +22,7 @@ struct SheetForm<'a, E> {
 impl<'a, E: Written> Text for SheetForm<'a, E> {
     ghost text = { λ x. sheet_text E.Written.writes x.names x.records.now };
 
+    // Kept: four calls show the order of the kinds; a loop over a list of the kinds is no shorter.
     fn write_to(&self, out: &mut Writer) {
         let records = self.records;
         write_names(out, self.names);

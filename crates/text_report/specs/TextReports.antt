@@ -21,7 +21,7 @@ use Rattle.text_report.specs.Norms.{norm_of}
 
 -- a refusal to write is of no line
 abbrev pub unwritten : Refusal → TextFault
-unwritten e = record { refusal = e; line = 0; layer = Writing }
+unwritten e = record { fault = record { refusal = e; line = 0 }; layer = Writing }
 
 abbrev pub written_of : Result ℕ Refusal → Result ℕ TextFault
 written_of (Ok n) = Ok n

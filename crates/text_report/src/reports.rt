@@ -6,6 +6,7 @@ ghost use Rattle.text_report.specs.TextReports.{FromAnyText, FromText, unwritten
 
 use crate::memory::Memory;
 use effect::{EffectName, N, NM, Written};
+use lines::fault::Fault;
 use load_lines::Names;
 use loads::Record;
 use norm::{Norm, NormName, Snip85, Sp20, SpecialNorm};
@@ -18,8 +19,7 @@ fn writing_fault(refusal: Refusal) -> TextFault
     ensures { result ≡ unwritten refusal }
 {
     TextFault {
-        refusal,
-        line: 0,
+        fault: Fault { refusal, line: 0 },
         layer: Layer::Writing,
     }
 }

@@ -1,6 +1,7 @@
 // A text with its report, and what a refusal leaves of the buffer.
 use crate::memory::Memory;
 use crate::reports::report_text;
+use lines::fault::Fault;
 use refusals::Refusal;
 use sheet_lines::{Layer, TextFault};
 use std::alloc::{AllocError, Global};
@@ -34,8 +35,10 @@ fn a_short_buffer_stays_as_it_was(rt: HostRuntime) -> Result<(), Fail> {
     let mut out = [b'x'; 83];
     let written = report_text(TEXT.as_bytes(), memory(rt.alloc())?, 32, &mut out);
     let fault = TextFault {
-        refusal: Refusal::OutputTooLong,
-        line: 0,
+        fault: Fault {
+            refusal: Refusal::OutputTooLong,
+            line: 0,
+        },
         layer: Layer::Writing,
     };
     assert_eq!(rt; written, Err(fault));
@@ -48,8 +51,10 @@ fn too_few_places_refuse_the_fourth_load(rt: HostRuntime) -> Result<(), Fail> {
     let mut out = [b'x'; 90];
     let written = report_text(TEXT.as_bytes(), memory(rt.alloc())?, 3, &mut out);
     let fault = TextFault {
-        refusal: Refusal::SheetFull,
-        line: 6,
+        fault: Fault {
+            refusal: Refusal::SheetFull,
+            line: 6,
+        },
         layer: Layer::Sheet,
     };
     assert_eq!(rt; written, Err(fault));

@@ -4,5 +4,5 @@ use Rattle.writing.proofs.Onward.{Onward}
 use Rattle.sheet_writing.specs.Sheets.{of_kind}
 use Rattle.sheet_writing.proofs.bodies.write_kind.Given as goal
 
-abbrev pub invariant-loop-i : goal.invariant-loop-i
-invariant-loop-i g l = Onward l.initial.out l.out (body_lines g.E.Written.writes (of_kind l.kind (drop l.i l.records))) (body_lines g.E.Written.writes (of_kind l.kind l.records))
+abbrev pub invariant-loop-record : goal.invariant-loop-record
+invariant-loop-record g l = Onward l.initial.out l.out (body_lines g.E.Written.writes (of_kind l.kind (drop l.record-index l.records))) (body_lines g.E.Written.writes (of_kind l.kind l.records))
