@@ -4,13 +4,13 @@ ghost use Rattle.report.specs.Reports.{Reported, report_text, special_text};
 ghost use Rattle.sheet.specs.Held.{held, places_of};
 ghost use Rattle.writing.specs.Writing.{Writes};
 
-use answer_lines::{write_basic, write_special};
-use combination::Answer;
+use answer_lines::write_answer;
+use combination::{Answer, Question};
 use effect::Written;
 use history::{worst_basic, worst_special};
 use load_lines::Names;
 use loads::Record;
-use norm::{Norm, SpecialNorm};
+use norm::{InSpecial, SpecialNorm};
 use refusals::Refusal;
 use sheet::Sheet;
 use sheet_writing::write_names;
@@ -36,7 +36,15 @@ fn write_special_part<E: Written, M: SpecialNorm>(
     ensures { Writes out.old (special_text E.Written.writes (M.SpecialNorm.special norm.now) records.now special.now) out.new }
 {
     match special {
-        Ok(answer) => write_special(out, norm, records, answer),
+        Ok(answer) => {
+            write_answer(
+                out,
+                Question::WithSpecial,
+                &InSpecial(norm),
+                records,
+                answer,
+            );
+        }
         Err(_) => out.word(b"SPECIAL NONE\n"),
     }
 }
@@ -46,7 +54,7 @@ impl<'a, E: Written, M: SpecialNorm> Text for Report<'a, E, M> {
 
     fn write_to(&self, out: &mut Writer) {
         write_names(out, self.names);
-        write_basic(out, self.norm, self.records, &self.basic);
+        write_answer(out, Question::Basic, self.norm, self.records, &self.basic);
         write_special_part(out, self.norm, self.records, &self.special);
     }
 }

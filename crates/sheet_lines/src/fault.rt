@@ -1,8 +1,9 @@
 // Why a text is refused.
-ghost use Rattle.std.specs.Prelude.{Some};
-ghost use Rattle.sheet_lines.specs.Faults.{text_fault_text};
+ghost use Rattle.std.specs.Prelude.{◌≡◌, Some};
+ghost use Rattle.sheet_lines.specs.Faults.{fault_of, in_line, text_fault_text};
 
 use lines::fault::Fault;
+use refusals::Refusal;
 use std::fmt;
 
 // Where a refusal comes from.
@@ -21,6 +22,25 @@ pub enum Layer {
 pub struct TextFault {
     pub fault: Fault,
     pub layer: Layer,
+}
+
+impl Layer {
+    // The fault of a line that this layer refuses.
+    pub fn fault(self, refusal: Refusal, line: usize) -> TextFault
+        ensures { result ≡ fault_of self refusal line }
+    {
+        TextFault {
+            fault: Fault { refusal, line },
+            layer: self,
+        }
+    }
+
+    // An answer in which a refusal is the fault of a line.
+    pub fn in_line<T>(self, answer: Result<T, Refusal>, line: usize) -> Result<T, TextFault>
+        ensures { result ≡ in_line self answer line }
+    {
+        answer.map_err(|refusal| self.fault(refusal, line))
+    }
 }
 
 impl fmt::Display for TextFault {

@@ -6,7 +6,9 @@ use Rattle.effect.specs.Laws.{Operations}
 use Rattle.effect.specs.Notations.{Notation}
 use Rattle.loads.specs.declared.kinds.Kind.{Kind}
 use Rattle.loads.specs.declared.records.Record.{Record}
+use Rattle.loads.specs.Letters.{letter_of}
 use Rattle.sheet.specs.Ledger.{record_of}
+use Rattle.sheet.specs.declared.changes.Entry.{Entry}
 use Rattle.sheet.proofs.Causes.{same_kind}
 use Rattle.sheet_lines.specs.Bodies.{LegibleBody, body_line, body_lines}
 use Rattle.sheet_lines.specs.Heading.{counts_line}
@@ -25,8 +27,9 @@ module _ {E : Type 0} (o : Operations E) (w : Notation E) (p : ℕ) where
   added {b = b} (finished none) = record { new = []; held = sym (append-nil b); legible = tt; of_kinds = refl; lines = none }
   added {b = b} {c = c} (entered {kind = kind} {kinds = kinds} x after b' legible line ok made more) =
       let rest = added more in
-      let first = record_of x.0 kind x.1 in
-      let is : b' ≡ b ++ first ∷ [] = made.2 ∙ ap (λ j. b ++ record_of x.0 j x.1 ∷ []) (same_kind _ made.0 kind made.1 refl) in
+      let entry : Entry E = record { number = x.0; letter = letter_of kind; load = x.1 } in
+      let first = record_of entry kind in
+      let is : b' ≡ b ++ first ∷ [] = made.2 ∙ ap (λ j. b ++ record_of entry j ∷ []) (same_kind _ made.0 kind made.1 refl) in
       record {
         new = first ∷ rest.new;
         held = rest.held ∙ ap (λ l. l ++ rest.new) is ∙ append_assoc b (first ∷ []) rest.new;

@@ -1,6 +1,6 @@
 -- Lines that are entered one after the other, and blocks of them.
 -- Assumes nothing.
-use Rattle.std.proofs.Common.{◌≡◌, ℕ, ◌+◌, ◌-◌, ◌<◌, List, [], ◌∷◌, ◌++◌, replicate, IsErrAnd, Ok, Err, Result, sym, ap, ◌∙◌, subst, append_assoc, append-nil, arith}
+use Rattle.std.proofs.Common.{◌≡◌, ℕ, ◌+◌, ◌-◌, ◌<◌, List, [], ◌∷◌, ◌++◌, replicate, IsErrAnd, Ok, Err, Result, sym, refl, ap, ◌∙◌, subst, append_assoc, append-nil, arith}
 use lib.ListN.{replicate-append-replicate}
 use Rattle.std.proofs.lemmas.Result.{err_from_is_err_and}
 use Rattle.effect.specs.Laws.{Operations}
@@ -17,6 +17,8 @@ use Rattle.sheet.specs.Ledger.{Performs}
 use Rattle.sheet.specs.declared.changes.Change.TheVariants.{Enter}
 use Rattle.sheet_lines.specs.Bodies.{LegibleBody, body_line}
 use Rattle.sheet_lines.specs.declared.fault.TextFault.{TextFault}
+use Rattle.sheet_lines.specs.Faults.{in_line}
+use Rattle.sheet_lines.specs.declared.fault.Layer.TheVariants.{Sheet as SheetLayer}
 use Rattle.sheet_text.specs.Blocks.{Block}
 use Rattle.sheet_text.specs.Texts.{Bodies, NoLine, barred, entered, malformed, misread, refused}
 
@@ -32,16 +34,20 @@ module _ {E : Type 0} (o : Operations E) (w : Notation E) (p : ℕ) where
 
     module _ (n l : ℕ) (x : Load E) (letter : l ≡ letter_of kind) (legible : LegibleBody w (n, x)) (line : rest s ≡ body_line w (n, x) (rest t)) where
       -- the sheet refuses it
-      pub line_refused : (e : Refusal) (f : TextFault) → f ≡ barred e k → Performs o p b (Enter n l x) (Err e) b' → Block o w p (kind ∷ []) s b (Err f) t b'
+      pub line_refused : (e : Refusal) (f : TextFault) → f ≡ barred e k → Performs o p b (Enter (record { number = n; letter = l; load = x })) (Err e) b' → Block o w p (kind ∷ []) s b (Err f) t b'
       line_refused e f is done kinds =
-          let bars = (subst (λ m. Performs o p b (Enter n m x) (Err e) b') letter done).0 in
+          let bars = (subst (λ m. Performs o p b (Enter (record { number = n; letter = m; load = x })) (Err e) b') letter done).0 in
           subst (λ y. Bodies o w p b (line_at s) (kind ∷ kinds) (rest s) (Err y)) (sym (is ∙ ap (barred e) at)) (refused (n, x) (rest t) e legible line bars)
 
       -- or accepts it
-      pub line_entered : line_at t ≡ line_at s + 1 → Performs o p b (Enter n l x) (Ok tt) b' → Block o w p (kind ∷ []) s b (Ok tt) t b'
+      pub line_entered : line_at t ≡ line_at s + 1 → Performs o p b (Enter (record { number = n; letter = l; load = x })) (Ok tt) b' → Block o w p (kind ∷ []) s b (Ok tt) t b'
       line_entered next done kinds r more =
-          let ok = subst (λ m. Performs o p b (Enter n m x) (Ok tt) b') letter done in
+          let ok = subst (λ m. Performs o p b (Enter (record { number = n; letter = m; load = x })) (Ok tt) b') letter done in
           entered (n, x) (rest t) b' legible line ok.0 ok.1 (subst (λ m. Bodies o w p b' m kinds (rest t) r) next more)
+
+      pub line_done : line_at t ≡ line_at s + 1 → (d : Result (Unit {0}) Refusal) (r : Result (Unit {0}) TextFault) → r ≡ in_line SheetLayer d k → Performs o p b (Enter (record { number = n; letter = l; load = x })) d b' → Block o w p (kind ∷ []) s b r t b'
+      line_done next (Ok u) r is done = subst (λ (y : Result (Unit {0}) TextFault). Block o w p (kind ∷ []) s b y t b') (sym is) (line_entered next done)
+      line_done next (Err e) r is done = subst (λ (y : Result (Unit {0}) TextFault). Block o w p (kind ∷ []) s b y t b') (sym is) (line_refused e (barred e k) refl done)
 
   module _ (xs ys : List Kind) (s : Tokens) (b : List (Record E)) where
     -- a block after another, over the same places

@@ -9,6 +9,7 @@ use Rattle.refusals.specs.declared.Refusal.{Refusal}
 use Rattle.loads.specs.declared.kinds.Kind.{Kind}
 use Rattle.loads.specs.declared.records.Load.{Load}
 use Rattle.loads.specs.declared.records.Record.{Record}
+use Rattle.loads.specs.Letters.{letter_of}
 use Rattle.sheet.specs.Ledger.{Changed, Due, Refuses, record_of}
 use Rattle.sheet.proofs.Causes.{same_kind, same_refusal}
 use Rattle.sheet_lines.specs.Bodies.{LegibleBody, body_line}
@@ -31,7 +32,7 @@ module _ {E : Type 0} (o : Operations E) (w : Notation E) (laws : NotationLaws w
   one_body x y t u lx ly p q = (body_form w laws).splits x y t u lx ly tt tt (sym p ∙ q)
 
   entered_once : (kind : Kind) (x : ℕ × Load E) (b m d : List (Record E)) → Changed b (entry_of kind x) m → Changed b (entry_of kind x) d → m ≡ d
-  entered_once kind x b m d h k = h.2 ∙ ap (λ j. b ++ record_of x.0 j x.1 ∷ []) (same_kind _ h.0 k.0 h.1 k.1) ∙ sym k.2
+  entered_once kind x b m d h k = h.2 ∙ ap (λ j. b ++ record_of (record { number = x.0; letter = letter_of kind; load = x.1 }) j ∷ []) (same_kind _ h.0 k.0 h.1 k.1) ∙ sym k.2
 
   pub bodies_once : {b : List (Record E)} {k : ℕ} {kinds : List Kind} {text : List ℕ} {r q : Result (List (Record E)) TextFault} → Bodies o w p b k kinds text r → Bodies o w p b k kinds text q → q ≡ r
   bodies_once (finished e) (finished f) = refl

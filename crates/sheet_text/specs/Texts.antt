@@ -17,6 +17,7 @@ use Rattle.sheet.specs.declared.changes.Change.{Change}
 use Rattle.sheet.specs.declared.changes.Change.TheVariants.{Enter}
 use Rattle.sheet.specs.declared.store.Sheet.{Sheet}
 use Rattle.sheet_lines.specs.Bodies.{LegibleBody, body_line, body_lines}
+use Rattle.sheet_lines.specs.Faults.{fault_of}
 use Rattle.sheet_lines.specs.Heading.{LegibleCounts, counts_line, due, names_line}
 use Rattle.sheet_lines.specs.declared.counts.Counts.{Counts}
 use Rattle.sheet_lines.specs.declared.fault.Layer.TheVariants.{Reading, Sheet as SheetLayer}
@@ -24,11 +25,11 @@ use Rattle.sheet_lines.specs.declared.fault.TextFault.{TextFault}
 
 -- line k is not of the form, is missing or is too many
 abbrev pub misread : Refusal → ℕ → TextFault
-misread e k = record { fault = record { refusal = e; line = k }; layer = Reading }
+misread e k = fault_of Reading e k
 
 -- the sheet refuses the entry of line k
 abbrev pub barred : Refusal → ℕ → TextFault
-barred e k = record { fault = record { refusal = e; line = k }; layer = SheetLayer }
+barred e k = fault_of SheetLayer e k
 
 -- the places of a sheet, where so many are asked for and the memory has room for so many
 abbrev pub places_in : ℕ → ℕ → ℕ
@@ -40,7 +41,7 @@ NoLine {A} valid written text = (a : A) (t : List ℕ) → valid a → text ≢ 
 
 -- the entry of a body of this kind
 abbrev pub entry_of : {E : Type 0} → Kind → ℕ × Load E → Change E
-entry_of kind x = Enter x.0 (letter_of kind) x.1
+entry_of kind x = Enter (record { number = x.0; letter = letter_of kind; load = x.1 })
 
 -- What comes of a text in which bodies of these kinds are due, the first in line k, where p places hold the records b: the records that are then held, or the first fault. A missing line is one that is malformed.
 pub data Bodies {E : Type 0} (o : Operations E) (w : Notation E) (p : ℕ) : (b : List (Record E)) (k : ℕ) (kinds : List Kind) (text : List ℕ) → Result (List (Record E)) TextFault → Type 0 where

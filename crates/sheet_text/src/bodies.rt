@@ -6,13 +6,12 @@ ghost use Rattle.sheet_lines.specs.Heading.{due};
 ghost use Rattle.sheet_text.specs.Blocks.{Block, entered_of};
 ghost use Rattle.sheet_text.specs.Texts.{Bodies};
 
-use crate::faults::{reading_fault, sheet_fault};
 use effect::Written;
 use lines::token::Tokens;
 use loads::Kind;
 use refusals::Refusal;
-use sheet::Sheet;
-use sheet_lines::{Counts, TextFault, read_body};
+use sheet::{Entry, Sheet};
+use sheet_lines::{Counts, Layer, TextFault, read_body};
 
 // Enters the body of the next line as a record of this kind.
 fn enter_line<E: Written>(
@@ -25,12 +24,15 @@ fn enter_line<E: Written>(
 {
     let line = tokens.line();
     let Some((number, load)) = read_body::<E>(tokens) else {
-        return Err(reading_fault(Refusal::BodyLine, line));
+        return Err(Layer::Reading.fault(Refusal::BodyLine, line));
     };
-    match sheet.enter(number, kind.letter(), load) {
-        Ok(()) => Ok(()),
-        Err(refusal) => Err(sheet_fault(refusal, line)),
-    }
+    let letter = kind.letter();
+    let entry = Entry {
+        number,
+        letter,
+        load,
+    };
+    Layer::Sheet.in_line(sheet.enter(entry), line)
 }
 
 // Enters the bodies of one kind.
@@ -63,7 +65,7 @@ pub(crate) fn read_bodies<E: Written>(
     enter_kind(tokens, Kind::ShortTerm, counts.short_term, sheet)?;
     enter_kind(tokens, Kind::Special, counts.special, sheet)?;
     if !tokens.is_at_end() {
-        return Err(reading_fault(Refusal::BodyLine, tokens.line()));
+        return Err(Layer::Reading.fault(Refusal::BodyLine, tokens.line()));
     }
     Ok(())
 }

@@ -2,7 +2,6 @@
 #![tactic(auto)]
 
 mod bodies;
-mod faults;
 mod sheets;
 mod start;
 #[cfg(test)]

@@ -4,14 +4,13 @@ ghost use Rattle.lines.specs.Lexing.{line_at, rest};
 ghost use Rattle.sheet_text.specs.Texts.{ReadFrom, SheetText, TextOf, WholeOf, WholeText, places_in};
 
 use crate::bodies::read_bodies;
-use crate::faults::reading_fault;
 use crate::start::read_heading;
 use effect::Written;
 use lines::token::Tokens;
 use loads::Record;
 use refusals::Refusal;
 use sheet::Sheet;
-use sheet_lines::{TextFault, read_counts};
+use sheet_lines::{Layer, TextFault, read_counts};
 
 // The sheet of a text whose names are read: the next line has the counts, and the bodies follow up to the end of the text.
 // Its places are the smallest of the number asked for, the capacity of the memory, and 32.
@@ -24,7 +23,7 @@ pub fn read_sheet<E: Written>(
 {
     let line = tokens.line();
     let Some(counts) = read_counts(tokens) else {
-        return Err(reading_fault(Refusal::Header, line));
+        return Err(Layer::Reading.fault(Refusal::Header, line));
     };
     let mut sheet = Sheet::open(memory, places);
     read_bodies(tokens, counts, &mut sheet)?;

@@ -1,11 +1,10 @@
 // The length of a text, and its first line.
 ghost use Rattle.sheet_text.specs.Starts.{Headed, NamesOf};
 
-use crate::faults::reading_fault;
 use lines::token::Tokens;
 use load_lines::Names;
 use refusals::Refusal;
-use sheet_lines::{TextFault, read_names};
+use sheet_lines::{Layer, TextFault, read_names};
 
 const LONGEST: usize = 4_096;
 
@@ -13,14 +12,11 @@ const LONGEST: usize = 4_096;
 pub(crate) fn read_heading(tokens: &mut Tokens, bytes: usize) -> Result<Names, TextFault>
     ensures { Headed bytes tokens.old result tokens.new }
 {
-    let fault = reading_fault(Refusal::Header, 1);
+    let fault = Layer::Reading.fault(Refusal::Header, 1);
     if bytes > LONGEST {
         return Err(fault);
     }
-    match read_names(tokens) {
-        Some(names) => Ok(names),
-        None => Err(fault),
-    }
+    read_names(tokens).ok_or(fault)
 }
 
 // The names in the first line of a text, which say how the rest is to be read.

@@ -7,6 +7,7 @@ ghost use Rattle.writing.specs.Writing.{Writes};
 use load_lines::Names;
 use loads::Kind;
 use sheet_lines::Counts;
+use words::Word;
 use writing::Writer;
 
 // The line of the names.

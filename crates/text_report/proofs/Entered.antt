@@ -13,7 +13,7 @@ use Rattle.history.specs.Questions.{SpecialAsked}
 use Rattle.history.specs.declared.calls.Call.{Call}
 use Rattle.history.specs.declared.calls.Call.TheVariants.{Change}
 use Rattle.history.specs.Outcomes.{Outcome}
-use Rattle.std.specs.Prelude.{Ok, Err, Some, None}
+use Rattle.std.specs.Prelude.{Ok, Err, None}
 use Rattle.load_lines.specs.declared.names.Names.{Names}
 use Rattle.report.specs.Reports.{Reported, report_text}
 use Rattle.sheet_lines.specs.declared.fault.TextFault.{TextFault}

@@ -11,6 +11,7 @@ use Rattle.combination.specs.declared.answers.Answer.{Answer}
 use Rattle.combination.specs.declared.questions.Question.TheVariants.{Basic, WithSpecial}
 use Rattle.history.specs.History.{NormAnswers}
 use Rattle.load_lines.specs.declared.names.Names.{Names}
+use Rattle.sheet_lines.specs.Faults.{in_line}
 use Rattle.sheet_lines.specs.declared.fault.Layer.TheVariants.{Writing}
 use Rattle.sheet_lines.specs.declared.fault.TextFault.{TextFault}
 use Rattle.sheet_text.specs.Starts.{NamesOf}
@@ -20,12 +21,8 @@ use Rattle.writing.specs.Writing.{Fitted}
 use Rattle.text_report.specs.Norms.{norm_of}
 
 -- a refusal to write is of no line
-abbrev pub unwritten : Refusal → TextFault
-unwritten e = record { fault = record { refusal = e; line = 0 }; layer = Writing }
-
 abbrev pub written_of : Result ℕ Refusal → Result ℕ TextFault
-written_of (Ok n) = Ok n
-written_of (Err e) = Err (unwritten e)
+written_of r = in_line Writing r 0
 
 module _ {E : Type 0} (o : Operations E) (w : Notation E) where
   -- the worst special combination of b, or there is no special load
@@ -46,6 +43,11 @@ module _ {E : Type 0} (o : Operations E) (w : Notation E) where
     faulty : (f : TextFault) → WholeText o w p text (Err f) → out ≡ Err f → after ≡ before → FromText names norm p text before out after
     reported : (b : List (Record E)) (report : List ℕ) (r : Result ℕ Refusal)
         → WholeText o w p text (Ok b) → ReportOf names norm b report → Fitted report before r after → out ≡ written_of r → FromText names norm p text before out after
+
+-- the same under a norm, of the effect type that the names say, with pn places for forces and pm for forces with moments
+pub data OfEffect (norm : NormAnswers) (pn pm : ℕ) (names : Names) (text before : List ℕ) (out : Result ℕ TextFault) (after : List ℕ) : Type 0 where
+  by_forces : names.effect ≡ N → FromText forces one_number names norm pn text before out after → OfEffect norm pn pm names text before out after
+  by_moments : names.effect ≡ Nm → FromText moments two_numbers names norm pm text before out after → OfEffect norm pn pm names text before out after
 
 -- the same of any text: the names in its first line say which norm and which effect type, with pn places for forces and pm for forces with moments
 pub data FromAnyText (pn pm : ℕ) (text before : List ℕ) (out : Result ℕ TextFault) (after : List ℕ) : Type 0 where

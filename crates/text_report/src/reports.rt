@@ -2,27 +2,16 @@
 ghost use Rattle.std.specs.Prelude.{◌≡◌, vec_capacity};
 ghost use Rattle.history.specs.History.{both};
 ghost use Rattle.sheet_text.specs.Texts.{places_in};
-ghost use Rattle.text_report.specs.TextReports.{FromAnyText, FromText, unwritten};
+ghost use Rattle.text_report.specs.TextReports.{FromAnyText, FromText, OfEffect};
 
 use crate::memory::Memory;
 use effect::{EffectName, N, NM, Written};
-use lines::fault::Fault;
 use load_lines::Names;
 use loads::Record;
 use norm::{Norm, NormName, Snip85, Sp20, SpecialNorm};
-use refusals::Refusal;
 use report::write_report;
 use sheet_lines::{Layer, TextFault};
 use sheet_text::{read_text, text_names};
-
-fn writing_fault(refusal: Refusal) -> TextFault
-    ensures { result ≡ unwritten refusal }
-{
-    TextFault {
-        fault: Fault { refusal, line: 0 },
-        layer: Layer::Writing,
-    }
-}
 
 // The report of a text under a norm, its effects read as the type `E`, written into `out`; its length, or the refusal that is due. After a refusal `out` is as it was.
 pub fn report_as<E: Written, M: SpecialNorm>(
@@ -36,9 +25,24 @@ pub fn report_as<E: Written, M: SpecialNorm>(
     ensures { FromText E.Effect.means E.Written.writes names (both (M.Norm.percentages norm.now) (M.SpecialNorm.special norm.now)) (places_in places (vec_capacity memory)) text.now out.old result out.new }
 {
     let sheet = read_text::<E>(text, memory, places)?;
-    match write_report(names, norm, &sheet, out) {
-        Ok(n) => Ok(n),
-        Err(refusal) => Err(writing_fault(refusal)),
+    Layer::Writing.in_line(write_report(names, norm, &sheet, out), 0)
+}
+
+// The same for the effect type that the text names.
+fn report_under<M: SpecialNorm>(
+    names: Names,
+    norm: &M,
+    text: &[u8],
+    memory: Memory,
+    places: usize,
+    out: &mut [u8],
+) -> Result<usize, TextFault>
+    ensures { OfEffect (both (M.Norm.percentages norm.now) (M.SpecialNorm.special norm.now)) (places_in places (vec_capacity memory.forces)) (places_in places (vec_capacity memory.moments)) names text.now out.old result out.new }
+{
+    let Memory { forces, moments } = memory;
+    match names.effect {
+        EffectName::N => report_as::<N, M>(names, norm, text, forces, places, out),
+        EffectName::Nm => report_as::<NM, M>(names, norm, text, moments, places, out),
     }
 }
 
@@ -52,19 +56,8 @@ pub fn report_text(
     ensures { FromAnyText (places_in places (vec_capacity memory.forces)) (places_in places (vec_capacity memory.moments)) text.now out.old result out.new }
 {
     let names = text_names(text)?;
-    let Memory { forces, moments } = memory;
-    match (names.norm, names.effect) {
-        (NormName::Sp20, EffectName::N) => {
-            report_as::<N, Sp20>(names, &Sp20, text, forces, places, out)
-        }
-        (NormName::Sp20, EffectName::Nm) => {
-            report_as::<NM, Sp20>(names, &Sp20, text, moments, places, out)
-        }
-        (NormName::Snip85, EffectName::N) => {
-            report_as::<N, Snip85>(names, &Snip85, text, forces, places, out)
-        }
-        (NormName::Snip85, EffectName::Nm) => {
-            report_as::<NM, Snip85>(names, &Snip85, text, moments, places, out)
-        }
+    match names.norm {
+        NormName::Sp20 => report_under(names, &Sp20, text, memory, places, out),
+        NormName::Snip85 => report_under(names, &Snip85, text, memory, places, out),
     }
 }

@@ -31,18 +31,15 @@ fn report(rt: &HostRuntime, input: impl Read + Drop) -> io::Result<()> {
 }
 
 fn main(rt: HostRuntime) -> io::Result<()> {
-    let mut asked = false;
-    for argument in env::args(&rt)?.skip(1) {
-        asked = true;
-        if argument.as_str() == "-" {
-            report(&rt, rt.stdin())?;
-        } else {
-            report(&rt, File::open(&rt, argument.as_str())?)?;
+    let mut paths = env::args(&rt)?.skip(1).peekable();
+    if paths.peek().is_none() {
+        return report(&rt, rt.stdin());
+    }
+    for path in paths {
+        match path.as_str() {
+            "-" => report(&rt, rt.stdin())?,
+            name => report(&rt, File::open(&rt, name)?)?,
         }
     }
-    if asked {
-        Ok(())
-    } else {
-        report(&rt, rt.stdin())
-    }
+    Ok(())
 }

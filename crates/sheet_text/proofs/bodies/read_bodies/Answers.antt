@@ -42,7 +42,7 @@ returns-then-not-is_at_end g c =
     let four = c.in_ok-enter_kind-4.ensures in
     let all = four_blocks o w p _ _ _ _ _ _ _ s c.enter_kind.new.tokens c.enter_kind-2.new.tokens c.enter_kind-3.new.tokens t b _ _ _ d (Ok tt) one.block one.places two.block two.places three.block three.places four.block in
     record {
-      bodies = subst (λ f. Bodies o w p b (line_at s) (due c.args.counts) (rest s) (Err f)) (sym (c.reading_fault.ensures ∙ ap (misread BodyLine) c.line.ensures))
+      bodies = subst (λ f. Bodies o w p b (line_at s) (due c.args.counts) (rest s) (Err f)) (sym (c.fault.ensures ∙ ap (misread BodyLine) c.line.ensures))
           (block_all o w p (due c.args.counts) s t b d (Err (misread BodyLine (line_at t))) all (surplus c.if-not-is_at_end.ensures));
       places = four.places ∙ three.places ∙ two.places ∙ one.places;
     }

@@ -13,8 +13,8 @@ returns-in_default g c =
     let w = g.E.Written.writes in
     let p = places_in c.args.places (vec_capacity c.args.memory) in
     let s = c.args.tokens.now in
-    let f = c.reading_fault.result in
-    let is = c.reading_fault.ensures ∙ ap (misread Header) c.line-line.ensures in
+    let f = c.fault.result in
+    let is = c.fault.ensures ∙ ap (misread Header) c.line-line.ensures in
     sheet_read o w p g.met.E.Written.legible (line_at s) (rest s) (Err f) tt
     (subst (λ x. SheetText o w p (line_at s) (rest s) (Err x)) (sym is) (no_counts (λ n t ok e. c.in_default.ensures.reads.0 n t ok tt e)))
 
