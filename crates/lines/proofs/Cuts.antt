@@ -1,29 +1,13 @@
 -- Fields, tokens and line ends as parts of a text.
-use Rattle.std.proofs.Common.{not, ltb-false, Option, Some, None, ltb, ◌≡◌, ℕ, suc, ◌+◌, ◌<◌, ◌≤◌, Bool, true, false, cond, ◌||◌, eqb, List, [], ◌∷◌, ◌++◌, length, get_or, take, drop, MatchBool, refl, ap, ◌∙◌, arith, length-drop, length-take, eq-eqb, ne_eqb, eqb-true}
+use Rattle.std.proofs.Common.{not, ltb-false, Option, Some, None, ltb, ◌≡◌, ℕ, suc, ◌+◌, ◌<◌, ◌≤◌, Bool, true, false, cond, ◌||◌, eqb, List, [], ◌∷◌, ◌++◌, length, get_or, take, drop, refl, ap, ◌∙◌, arith, length-drop, length-take, ne_eqb, eqb-true}
 use Rattle.std.specs.List.{position_or_len}
 use Rattle.std.specs.Option.{unwrap_or}
 use Rattle.std.proofs.lemmas.List.Sums.{prefix_len-le-length}
 use Rattle.std.proofs.lemmas.List.Recursion.{is_position_or_len}
 use Rattle.lines.specs.Lines.{newlines, separates, field, begins_blank, gap, lexeme}
 
-pub empty_when : (s : List ℕ) → MatchBool (eqb (length s) 0) (s ≡ []) (0 < length s)
-empty_when [] = refl
-empty_when (b ∷ bs) = rw (ne_eqb (length (b ∷ bs)) 0 (λ e. omega arith)) (omega arith)
-
 pub no_separator : (b : ℕ) → (b ≡ 32 → ⊥) → (b ≡ 10 → ⊥) → separates b ≡ false
 no_separator b p q = (λ i. ne_eqb b 32 p i || ne_eqb b 10 q i)
-
-pub blank_separates : (b : ℕ) → b ≡ 32 → separates b ≡ true
-blank_separates b p = (λ i. eq-eqb b 32 p i || eqb b 10)
-
-pub line_separates : (b : ℕ) → b ≡ 10 → separates b ≡ true
-line_separates b p = ap separates p
-
-field_none : (b : ℕ) (bs : List ℕ) → separates b ≡ true → field (b ∷ bs) ≡ []
-field_none b bs e = ap (λ t. cond t [] (b ∷ field bs)) e
-
-field_more : (b : ℕ) (bs : List ℕ) → separates b ≡ false → field (b ∷ bs) ≡ b ∷ field bs
-field_more b bs e = ap (λ t. cond t [] (b ∷ field bs)) e
 
 -- a field ends before the first separator
 pub field_position : (s : List ℕ) → length (field s) ≡ position_or_len separates s
@@ -48,9 +32,6 @@ take_field (b ∷ bs) = go (separates b) (take_field bs)
     go : (t : Bool) → take (length (field bs)) bs ≡ field bs → take (length (cond t [] (b ∷ field bs))) (b ∷ bs) ≡ cond t [] (b ∷ field bs)
     go true e = refl
     go false e = ap (λ l. b ∷ l) e
-
-field_within : (s : List ℕ) → length (field s) ≤ length s
-field_within s = omega (arith, ap length (take_field s), length-take (length (field s)) s)
 
 pub newlines_append : (a b : List ℕ) → newlines (a ++ b) ≡ newlines a + newlines b
 newlines_append [] b = omega arith

@@ -1,12 +1,11 @@
 -- Texts of numbers with a sign.
 -- Assumes nothing.
-use Rattle.std.proofs.Common.{◌≡◌, ℕ, zero, suc, ◌-◌, ◌^◌, ◌<◌, List, ◌∷◌, length, get_or, take, drop, ℤ, pos, negsuc, ◌-ℤ◌, nat_abs, Some, decimal, sym, refl, ap, ◌∙◌, subst, arith, w64, to_z, of_z}
+use Rattle.std.proofs.Common.{◌≡◌, ℕ, suc, ◌-◌, ◌^◌, ◌<◌, List, ◌∷◌, length, get_or, take, drop, ℤ, pos, negsuc, nat_abs, decimal, sym, refl, ap, ◌∙◌, subst, arith}
 use lib.Signed.{mag}
 use Rattle.std.specs.Fmt.{signed_decimal}
-use Rattle.std.proofs.lemmas.Int.{ints}
 use Rattle.std.proofs.lemmas.Slice.{first_rest}
 use Rattle.std.proofs.lemmas.Fmt.{decimal_injective, signed_decimal_injective}
-use Rattle.lines.specs.Numeral.{Legible, Short, ShortZ, Spelt, numeral}
+use Rattle.lines.specs.Numeral.{Legible, Short, ShortZ, numeral}
 use Rattle.lines.proofs.Fields.{OwnFields, Solid, solid_decimal, whole_field}
 use Rattle.lines.proofs.Numbers.{short_text}
 
@@ -30,15 +29,6 @@ no_minus text some minus none z short e =
 pub not_zero : (rest : List ℕ) (m : ℕ) → m ≡ 0 → rest ≡ decimal m → (n : ℕ) → 0 < n → Short n → rest ≡ decimal n → ⊥
 not_zero rest m zero-m e n some short f =
     omega (arith, decimal_injective m n (omega arith) (omega arith) (sym e ∙ f))
-
--- a cast and a negation, as the checker reads them
-minus_is : (n : ℕ) → Short (suc n) → to_z w64 (of_z w64 (pos 0 -ℤ to_z w64 (suc n))) ≡ negsuc n
-minus_is n short = omega (arith, ints)
-
-pub negated : (text : List ℕ) (n : ℕ) → 0 < length text → get_or text 0 0 ≡ 45 → (n ≡ 0 → ⊥) → Short n → tail text ≡ decimal n → Spelt ShortZ signed_decimal text (Some (to_z w64 (of_z w64 (pos 0 -ℤ to_z w64 n))))
-negated text zero some minus other short e = absurd (other refl)
-negated text (suc n) some minus other short e =
-    subst (λ z. Spelt ShortZ signed_decimal text (Some z)) (sym (minus_is n short)) (short, minus_text text some minus ∙ ap (λ l. 45 ∷ l) e)
 
 -- a number with a sign is a field of its own
 pub solid_signed : (z : ℤ) → ShortZ z → Solid (signed_decimal z)

@@ -83,9 +83,6 @@ module _ {A C : Type 0} {valid₁ : A → Type 0} {written₁ : A → List ℕ �
     none.1,
   )
 
-  pub wrapped : (stops : List ℕ → Type 0) (s u : Tokens) (a : A) → Reads valid₁ written₁ stops s (Some a) u → Reads valid written stops s (Some (make a)) u
-  wrapped stops s u a got = (q.made a got.0, got.1 ∙ sym (q.same a (rest u) got.0), got.2, got.3)
-
   pub wrapped_form : {k : ℕ} {stops : List ℕ → Type 0} → Form k valid₁ written₁ stops → Form k valid written stops
   wrapped_form f = record {
     splits = λ c d t u vc vd et eu e.

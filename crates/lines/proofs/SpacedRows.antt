@@ -2,7 +2,7 @@
 -- Assumes nothing.
 use Rattle.std.proofs.Common.{◌≡◌, ℕ, ◌+◌, ◌<◌, true, List, [], ◌∷◌, length, take, set, Some, None, sym, refl, ap, ◌∙◌, subst, arith, length-set}
 use Rattle.std.proofs.ByRecursion.{All-push}
-use Rattle.std.proofs.lemmas.List.{take_more_set, take_all, length-take-le}
+use Rattle.std.proofs.lemmas.List.{take_more_set, length-take-le}
 use Rattle.std.specs.List.{AllByRecursion}
 use Rattle.lines.specs.Lexing.{SameText, rest}
 use Rattle.lines.specs.Reading.{Ends, EndsAfter, Row, Reads, led, spaced}
@@ -35,9 +35,6 @@ pub record SpacedSofar {A : Type 0} (valid : A → Type 0) (written : A → List
   pub stops : 0 < i → Ends (rest u)
   pub text : SameText s u
 
-pub spaced_none : {A : Type 0} {valid : A → Type 0} {written : A → List ℕ} {n : ℕ} {out : List A} → length out ≡ n → (s : Tokens) → SpacedSofar valid written n 0 out s s
-spaced_none size s = record { size = size; row = tt; cut = refl; stops = λ h. absurd (omega arith); text = refl }
-
 module _ {A : Type 0} {valid : A → Type 0} {written : A → List ℕ} {n i : ℕ} {out : List A} {s u : Tokens} (h : SpacedSofar valid written n i out s u) where
   pub spaced_more : (v : Tokens) (a : A) → i < n → Reads valid (led true written) Ends u (Some a) v → SpacedSofar valid written n (i + 1) (set out i a) s v
   spaced_more v a more got =
@@ -59,8 +56,3 @@ module _ {A : Type 0} {valid : A → Type 0} {written : A → List ℕ} {n i : �
         (λ a w ok ends' cut. none.0 a w ok ends' cut)),
     none.1 ∙ h.text,
   )
-
-  pub spaced_whole : i ≡ n → Reads (Row valid n) (spaced written) (EndsAfter n) s (Some out) u
-  spaced_whole done =
-      let all = take_all i out (omega (arith, h.size)) in
-      ((h.size, subst (AllByRecursion valid) all h.row), h.cut ∙ ap (λ l. spaced written l (rest u)) all, (λ some. h.stops (omega arith)), h.text)

@@ -20,6 +20,7 @@ impl<'a> Tokens<'a> {
     }
 
     // `K` numbers, each after one blank.
+    // Kept: of a missing number `array::try_from_fn` promises nothing about those read before, so that there is no such row would not follow.
     pub fn fields<const K: usize>(&mut self) -> Option<[u64; K]>
         ensures { Reads (Row Short K) (spaced decimal) (EndsAfter K) self.old result self.new }
     {

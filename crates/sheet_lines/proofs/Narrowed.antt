@@ -10,10 +10,7 @@ module _ {A : Type 0} {k : ℕ} {valid few : A → Type 0} {written : A → List
   pub narrowed_form : Form k few written stops
   narrowed_form = record { splits = λ a b t u va vb et eu e. f.splits a b t u (within a va) (within b vb) et eu e; lines = λ a t ok. f.lines a t (within a ok) }
 
-  -- nothing was read, what was read is not taken, or it is
-  pub nothing_read : (s u : Tokens) → Reads valid written stops s None u → Reads few written stops s None u
-  nothing_read s u none = ((λ a t ok ends e. none.0 a t (within a ok) ends e), none.1)
-
+  -- what was read is not taken, or it is
   pub not_taken : (s u : Tokens) (a : A) → (few a → ⊥) → Reads valid written stops s (Some a) u → Reads few written stops s None u
   not_taken s u a out got = (
     (λ b t ok ends e. out (subst few (f.splits b a t (rest u) (within b ok) got.0 ends got.2 (sym e ∙ got.1)).0 ok)),
