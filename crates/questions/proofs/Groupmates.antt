@@ -1,15 +1,10 @@
 -- Which records are done while the group of record i is carried.
 use Rattle.std.proofs.Common.{◌≡◌, ℕ, ◌+◌, ◌<◌, ◌≤◌, Bool, true, false, ◌≢◌, ◌⊎◌, List, length, get_or, set, Decides, sym, ap, ◌∙◌, subst, inl, inr, ⊎_elim, arith, length-set, get_or-set_other, get_or-set_same}
-use Rattle.std.proofs.lemmas.List.{get_or-map}
 use Rattle.std.proofs.lemmas.Bool.{cases_eq, cases_Bool, both_ways}
-use Rattle.questions.specs.PartChoices.{group_of, group_at, Marked}
+use Rattle.questions.specs.PartChoices.{group_at, Marked}
 use Rattle.questions.specs.BestParts.{Opens}
 use Rattle.questions.specs.Tables.{Kin, Fellow, Closed, Carried}
 use Rattle.questions.specs.Items.{Item}
-
--- the group that a record shows
-pub group_read : {V : Type 0} (items : List (Item V)) (k : ℕ) (d : Item V) → k < length items → group_at items k ≡ (get_or items k d).group
-group_read items k d h = get_or-map group_of items k d 0 h
 
 -- the test for a fellow: the groups are one, other than 0
 pub fellow_by_group : {V : Type 0} (items : List (Item V)) (wanted : List Bool) (i j x y : ℕ) → group_at items i ≡ x → group_at items j ≡ y → (i ≡ j → ⊥) → Marked wanted j → (b : Bool) → Decides b ((x ≡ y) × (x ≡ 0 → ⊥)) → Decides b (Fellow items wanted i j)

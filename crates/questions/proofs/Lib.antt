@@ -19,7 +19,6 @@ pub mod Marking
 pub mod Subchoices
 pub mod Pairings
 pub mod Finds
-pub mod Fours
 pub mod Loops
 pub mod Rules
 pub mod Threes

@@ -1,5 +1,5 @@
 -- The pairs of numbers, one after the other.
-use Rattle.std.proofs.Common.{◌≡◌, ℕ, ◌+◌, ◌<◌, ◌≤◌, true, false, ◌≢◌, List, Some, None, Option, sym, subst, inl, inr, ⊎_elim, arith}
+use Rattle.std.proofs.Common.{◌≡◌, ℕ, ◌+◌, ◌<◌, ◌≤◌, true, false, ◌≢◌, List, None, Option, sym, subst, inl, inr, ⊎_elim, arith}
 use Rattle.std.proofs.lemmas.Bool.{cases_eq, cases_Bool}
 use Rattle.effect.specs.Laws.{Operations}
 use Rattle.loads.specs.declared.kinds.Kind.TheVariants.{LongTerm, ShortTerm}
@@ -9,7 +9,7 @@ use Rattle.norm.specs.declared.terms.Term.{Term}
 use Rattle.combination.specs.Choices.{lines, taken}
 use Rattle.combination.specs.Worst.{comes_to}
 use Rattle.combination.specs.declared.questions.Question.{Question}
-use Rattle.questions.specs.Engine.{Shown, Covers, Just, Since, Larger, Limits, Answered}
+use Rattle.questions.specs.Engine.{Shown, Covers, Just, Since, Larger, Limits}
 use Rattle.questions.specs.declared.pair.Candidate.{Candidate}
 
 -- inside its ranges and outside them, a percentage is at most 100
@@ -42,29 +42,4 @@ module _ {V : Type 0} (e : Operations V) (norm : Percentages) (q : Question) (rs
         (λ (ne : taken ShortTerm (lines rs qs) ≢ nt). lg.left (comes_to e norm (lines rs qs)) (ca.most qs adm (inr (h.0, omega (arith, h.1)))))
         (cases_eq (taken ShortTerm (lines rs qs)) nt))
         p;
-  }
-
-  -- the next number of long-term loads, with more short-term loads than any choice takes
-  pub covers_across : (nl shorts : ℕ) (o : Option (Candidate V)) → Limits q rs ShortTerm shorts → Covers e norm q rs (Since (nl + 1) 0) o → Covers e norm q rs (Since nl (shorts + 1)) o
-  covers_across nl shorts o limit c = record {
-    shown = c.shown;
-    most = λ qs adm p. c.most qs adm (⊎_elim
-        (λ (h : nl < taken LongTerm (lines rs qs)). ⊎_elim
-        (λ (same : taken LongTerm (lines rs qs) ≡ nl + 1). inr (same, omega arith))
-        (λ (ne : taken LongTerm (lines rs qs) ≢ nl + 1). inl (omega arith))
-        (cases_eq (taken LongTerm (lines rs qs)) (nl + 1)))
-        (λ (h : (taken LongTerm (lines rs qs) ≡ nl) × (shorts + 1 ≤ taken ShortTerm (lines rs qs))). absurd (omega (arith, h.1, limit qs adm)))
-        p);
-  }
-
-  since_all : (x y : ℕ) → Since 0 0 x y
-  since_all x y = ⊎_elim (λ (h : x ≡ 0). inr (h, omega arith)) (λ (h : x ≢ 0). inl (omega arith)) (cases_eq x 0)
-
-  -- after the last pair
-  pub covers_all : (o : Option (Candidate V)) → Covers e norm q rs (Since 0 0) o → Answered e norm q rs o
-  covers_all None c = λ qs adm. c.most qs adm (since_all (taken LongTerm (lines rs qs)) (taken ShortTerm (lines rs qs)))
-  covers_all (Some a) c = record {
-    admissible = c.shown.0;
-    reached = c.shown.1;
-    greatest = λ qs adm. c.most qs adm (since_all (taken LongTerm (lines rs qs)) (taken ShortTerm (lines rs qs)));
   }

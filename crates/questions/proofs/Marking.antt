@@ -1,16 +1,14 @@
 -- Which records are of a kind, one after the other; and sums and picks, one after the other.
-use Rattle.std.proofs.Common.{◌≡◌, ℕ, ◌+◌, ◌*◌, ◌<◌, ◌≤◌, Bool, true, false, cond, ◌≢◌, List, [], ◌∷◌, map, length, get_or, take, set, replicate, sym, refl, ap, ◌∙◌, subst, ⊎_elim, arith, length-set, mul-le-mul_right, suc-mul, rules, get_or-set_other, get_or-set_same, None}
+use Rattle.std.proofs.Common.{◌≡◌, ℕ, ◌+◌, ◌*◌, ◌<◌, ◌≤◌, Bool, true, false, cond, ◌≢◌, List, [], ◌∷◌, map, length, get_or, take, set, replicate, sym, refl, ap, ◌∙◌, subst, ⊎_elim, arith, length-set, mul-le-mul_right, suc-mul, get_or-set_other, get_or-set_same, None}
 use lib.ListN.{length-map}
-use Rattle.std.proofs.lemmas.List.{get_or-map, get_or_past, ext_get_or, get_or-take, length-take-le}
-use Rattle.std.proofs.lemmas.Bool.{cases_eq, cases_lt}
+use Rattle.std.proofs.lemmas.List.{get_or-map, ext_get_or, get_or-take, length-take-le}
+use Rattle.std.proofs.lemmas.Bool.{cases_eq}
 use Rattle.std.specs.List.{AllByRecursion}
 use Rattle.effect.specs.Laws.{Operations, Laws, limit}
 use Rattle.effect.specs.Sums.{total, reaches}
 use Rattle.effect.proofs.Totals.{total_step}
 use Rattle.questions.specs.Items.{InRange, Kept}
 use Rattle.questions.specs.declared.pair.Parts.{Parts}
-use denote.Enum.Bare.{sameb}
-use Rattle.loads.specs.contracts.kinds.Kind.{the_type}
 use Rattle.loads.specs.declared.kinds.Kind.{Kind}
 use Rattle.loads.specs.declared.kinds.Kind.TheVariants.{Permanent}
 use Rattle.loads.specs.declared.records.Record.{Record}
@@ -24,10 +22,6 @@ use Rattle.combination.specs.declared.picks.Pick.TheVariants as pick
 use Rattle.questions.proofs.Merges.{length_merged, merged_at}
 use Rattle.questions.proofs.Splits.{fixed_bound}
 
--- whether two kinds are one, as a derived `==` tests it
-pub of_kind : (a b : Kind) → sameb the_type a b ≡ is_of_kind a b
-of_kind a b = search rules
-
 pub record Marking {V : Type 0} (rs : List (Record V)) (kind : Kind) (flags : List Bool) (i : ℕ) : Type 0 where
   pub size : length flags ≡ 32
   pub below : (k : ℕ) → k < i → get_or flags k false ≡ get_or (mask kind rs) k false
@@ -36,25 +30,6 @@ pub record Marking {V : Type 0} (rs : List (Record V)) (kind : Kind) (flags : Li
 module _ {V : Type 0} (rs : List (Record V)) (kind : Kind) where
   pub marking_none : Marking rs kind (replicate 32 false) 0
   marking_none = record { size = refl; below = λ k h. absurd (omega arith); above = λ k h. blank 32 k }
-
-  pub marking_more : (flags : List Bool) (i : ℕ) (b : Bool) (r : Record V) → i < length rs → length rs ≤ 32 → b ≡ is_of_kind kind (get_or rs i r).kind → Marking rs kind flags i → Marking rs kind (set flags i b) (i + 1)
-  marking_more flags i b r h few e m = record { size = length-set flags i b ∙ m.size; below = below; above = above }
-    where
-      below : (k : ℕ) → k < i + 1 → get_or (set flags i b) k false ≡ get_or (mask kind rs) k false
-      below k l = ⊎_elim
-          (λ (same : k ≡ i). subst (λ (j : ℕ). get_or (set flags i b) j false ≡ get_or (mask kind rs) j false) (sym same)
-          (get_or-set_same flags i b false (omega (arith, m.size)) ∙ e ∙ sym (get_or-map (λ (x : Record V). is_of_kind kind x.kind) rs i r false h)))
-          (λ (ne : k ≢ i). get_or-set_other flags i k b false ne ∙ m.below k (omega arith))
-          (cases_eq k i)
-
-      above : (k : ℕ) → i + 1 ≤ k → get_or (set flags i b) k false ≡ false
-      above k l = let ne : k ≢ i = omega arith in get_or-set_other flags i k b false ne ∙ m.above k (omega arith)
-
-  pub marking_all : (flags : List Bool) (i : ℕ) → length rs ≤ i → Marking rs kind flags i → (k : ℕ) → get_or flags k false ≡ get_or (mask kind rs) k false
-  marking_all flags i h m k = ⊎_elim
-      (λ (l : k < i). m.below k l)
-      (λ (l : i ≤ k). m.above k l ∙ sym (get_or_past (mask kind rs) k false (omega (arith, length-map rs (λ (x : Record V). is_of_kind kind x.kind)))))
-      (cases_lt k i)
 
 -- what the permanent loads add, each by the factor that comes to the most
 abbrev pub bests : {V : Type 0} → Operations V → List (Record V) → List V
@@ -86,9 +61,6 @@ module _ {V : Type 0} (e : Operations V) (rs : List (Record V)) (p : Parts) wher
   pub record Joining (picks : List Pick) (i : ℕ) : Type 0 where
     pub size : length picks ≡ 32
     pub below : (k : ℕ) → k < i → get_or picks k pick.Out ≡ get_or (joined e rs p) k pick.Out
-
-  pub joining_none : (picks : List Pick) → length picks ≡ 32 → Joining picks 0
-  joining_none picks size = record { size = size; below = λ k h. absurd (omega arith) }
 
   pub joining_more : (picks : List Pick) (i : ℕ) (x : Pick) (r : Record V) → i < length rs → length rs ≤ 32 → r ≡ get_or rs i r → x ≡ placed e r.kind r (get_or p.long.roles i None) (get_or p.short.roles i None) (get_or p.special.roles i None) → Joining picks i → Joining (set picks i x) (i + 1)
   joining_more picks i x r h few is pe m = record { size = length-set picks i x ∙ m.size; below = below }

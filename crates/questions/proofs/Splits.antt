@@ -55,10 +55,6 @@ module _ {V : Type 0} {e : Operations V} (laws : Laws e) where
   into : (c p x : V) → e.reach c + e.reach p + e.reach x ≤ limit → e.plus c (e.plus p x) ≡ e.plus p (e.plus c x)
   into c p x h = sym (laws.plus_assoc c p x h) ∙ ap (λ (y : V). e.plus y x) (laws.plus_comm c p (omega arith)) ∙ laws.plus_assoc p c x (omega arith)
 
-  reach_cond : (b : Bool) (x : V) → e.reach x ≤ most → e.reach (cond b x e.nil) ≤ most
-  reach_cond true x h = h
-  reach_cond false x h = omega (arith, laws.reach_nil)
-
   reach_permanent : (p : Pick) (r : Record V) → InRange e r → e.reach (permanent e p r) ≤ most
   reach_permanent p r h =
       let c : cond (is_lower p) r.load.lower r.load.upper ≤ 200 = chosen_most (is_lower p) h.lower h.upper in

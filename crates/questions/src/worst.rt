@@ -18,8 +18,7 @@ use effect::Effect;
 use loads::Kind;
 use norm::{Norm, Term};
 
-// Kept: what `Prepared` says stays a clause of the functions that use the tables. As an invariant of the tables it would need a reference to the records in each of
-// them, a fact for each that these are the same, and for each of its parts a proof that it has one proof at most.
+// Kept: `Prepared` stays a clause, since as an invariant of the tables it needs the records beside each of them, and a proof of each part that it has one proof at most.
 // What is known before any number is tried.
 fn tables_of<E: Effect>(loads: &WeighedRecords<E>) -> Tables<E>
     ensures { Prepared E.means loads.now.records.now result }

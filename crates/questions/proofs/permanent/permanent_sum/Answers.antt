@@ -5,9 +5,6 @@ use Rattle.questions.specs.Parts.{fixed, best_factor}
 use Rattle.questions.proofs.Marking.{bests, bests_total, fixed_turn}
 use Rattle.questions.proofs.permanent.permanent_sum.Goals as goal
 
-pub loop-record-init : goal.loop-record-init
-loop-record-init g c = c.zero-sum.ensures
-
 pub loop-record-preserved : goal.loop-record-preserved
 loop-record-preserved g c = fixed_turn g.met.E.Effect.lawful c.args.loads.now.records.now c.args.loads.now.kept c.loop-record.record-index c.record-item.result c.permanent_part.result c.loop-record.sum c.sum-sum.result c.loop-record-test.true c.record-item.is c.permanent_part.ensures c.loop-record.invariant c.sum-sum.ensures
 

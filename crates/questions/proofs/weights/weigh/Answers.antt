@@ -1,19 +1,6 @@
-use Rattle.std.proofs.Common.{sym, refl, subst, arith}
-use Rattle.std.proofs.ByRecursion.{All-get_or}
-use Rattle.loads.specs.Rules.{Ruled}
-use Rattle.combination.specs.Sound.{Sound}
-use Rattle.questions.proofs.Rules.{weighing_none, weighing_more, weighing_all}
+use Rattle.std.proofs.Common.{arith}
+use Rattle.questions.proofs.Rules.{weighing_more, weighing_all}
 use Rattle.questions.proofs.weights.weigh.Goals as goal
-
-pub returns-in_err-weights : goal.returns-in_err-weights
-returns-in_err-weights g c =
-    let e = g.E.Effect.means in
-    let rs = c.args.records.now in
-    rw c.from_residual.ensures
-    (λ (sound : Sound e rs). c.in_err-weights.ensures (subst (Ruled e) (sym c.index-records-k.is) (All-get_or (Ruled e) rs c.loop-k.k c.index-records-k.result c.loop-k-test.true sound.ruled)))
-
-pub loop-k-init : goal.loop-k-init
-loop-k-init g c = weighing_none g.E.Effect.means c.args.records.now _ refl
 
 pub loop-k-preserved : goal.loop-k-preserved
 loop-k-preserved g c =

@@ -42,11 +42,8 @@ loop-i-preserved g c =
       ))
     ]
 
-pub returns : goal.returns
-returns g c =
+pub returns-clause-bound : goal.returns-clause-bound
+returns-clause-bound g c =
     let items = items_of g.E.Effect.means full c.args.self.now.loads.now.records.now in
     let same : length items ≡ length c.args.self.now.loads.now.records.now = same_length g.E.Effect.means full c.args.self.now.loads.now.records.now in
-    record {
-      bound = bound_covered items c.args.self.now.flags.now c.loop-i.done c.loop-i.count (λ k h w. c.loop-i.invariant.2 k (omega (arith, c.loop-i-test.false)) w) c.loop-i.invariant.0;
-      few = omega (arith, c.args.self.now.loads.now.kept.few, c.loop-i.invariant.3, c.loop-i.auto.i-end);
-    }
+    bound_covered items c.args.self.now.flags.now c.loop-i.done c.loop-i.count (λ k h w. c.loop-i.invariant.2 k (omega (arith, c.loop-i-test.false)) w) c.loop-i.invariant.0

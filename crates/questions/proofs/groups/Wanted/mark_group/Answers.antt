@@ -1,18 +1,12 @@
-use Rattle.std.proofs.Common.{◌≡◌, ℕ, ◌+◌, Bool, List, length, sym, subst, arith, rules}
+use Rattle.std.proofs.Common.{◌≡◌, ℕ, ◌+◌, Bool, List, length, sym, subst, arith}
 use Rattle.std.proofs.lemmas.Bool.Decides.{not_from_Decides}
 use Rattle.questions.specs.Items.{full, items_of}
 use Rattle.questions.specs.Tables.{TakesAtMost}
-use Rattle.questions.proofs.Bounds.{bound_more, bound_offered}
-use Rattle.questions.proofs.Groupmates.{Carrying, carrying_none, carrying_skip, carrying_more, carrying_all, carrying_opens}
+use Rattle.questions.proofs.Bounds.{bound_offered}
+use Rattle.questions.proofs.Groupmates.{Carrying, carrying_skip, carrying_more, carrying_opens}
 use Rattle.questions.proofs.Readies.{same_length}
 use Rattle.questions.proofs.groups.Wanted.mark_group.Goals as goal
 use Rattle.questions.proofs.groups.Wanted.mark_group.Goals.{then-is_fellow, else-is_fellow}
-
-pub loop-j-init : goal.loop-j-init
-loop-j-init g c =
-    let items = items_of g.E.Effect.means full c.args.self.now.loads.now.records.now in
-    let size : length c.args.done.now ≡ 32 = search rules in
-    (carrying_none items c.args.self.now.flags.now c.args.i c.args.done.now size, λ n h. bound_more items c.args.done.now n (n + 1) (omega arith) h)
 
 pub loop-j-preserved : goal.loop-j-preserved
 loop-j-preserved g c =
@@ -30,9 +24,3 @@ loop-j-preserved g c =
         inv.1,
       )
     ]
-
-pub returns : goal.returns
-returns g c = record {
-  carried = carrying_all (items_of g.E.Effect.means full c.args.self.now.loads.now.records.now) c.args.self.now.flags.now c.args.i c.args.done.now c.loop-j.j (omega (arith, c.loop-j-test.false, same_length g.E.Effect.means full c.args.self.now.loads.now.records.now)) c.loop-j.invariant.0;
-  bound = c.loop-j.invariant.1;
-}

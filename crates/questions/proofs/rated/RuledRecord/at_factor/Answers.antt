@@ -5,11 +5,6 @@ use Rattle.questions.proofs.Readies.{most, multiple_within}
 use Rattle.questions.proofs.Splits.{chosen_most}
 use Rattle.questions.proofs.rated.RuledRecord.at_factor.Goals as goal
 
-pub overflow_mul-factor : goal.overflow_mul-factor
-overflow_mul-factor g c =
-    let few = chosen_most (is_lower c.args.pick) c.args.self.now.in_range.lower c.args.self.now.in_range.upper in
-    omega (arith, few, c.chosen-factor.ensures)
-
 pub returns : goal.returns
 returns g c =
     let e = g.E.Effect.means in

@@ -9,14 +9,8 @@ use Rattle.questions.proofs.Readies.{same_length}
 use Rattle.questions.proofs.table.Table.carry.Goals as goal
 use Rattle.questions.proofs.table.Table.carry.Goals.{then-is_fellow, else-is_fellow}
 
-pub offer-requires : goal.offer-requires
-offer-requires g c = record {
-  opens = carrying_opens (items_of g.E.Effect.means c.args.rated.now.percents c.args.rated.now.loads.now.records.now) c.args.wanted.now c.args.i c.args.self.now.done (omega (arith, c.requires.here, same_length g.E.Effect.means c.args.rated.now.percents c.args.rated.now.loads.now.records.now)) c.requires.asked c.requires.fresh c.requires.closed c.loop-j.j (omega (arith, c.loop-j-test.true, same_length g.E.Effect.means c.args.rated.now.percents c.args.rated.now.loads.now.records.now)) (omega (arith, c.args.rated.now.loads.now.kept.few, same_length g.E.Effect.means c.args.rated.now.percents c.args.rated.now.loads.now.records.now)) ((c.is_fellow.ensures c.args.rated.now.percents).0 c.if-is_fellow.true) c.loop-j.invariant.1;
-  prior = c.requires.best;
-  best = c.loop-j.invariant.0;
-  one = c.loop-j.invariant.2;
-  rows = c.loop-j.invariant.3;
-}
+pub offer-requires-clause-opens : goal.offer-requires-clause-opens
+offer-requires-clause-opens g c = carrying_opens (items_of g.E.Effect.means c.args.rated.now.percents c.args.rated.now.loads.now.records.now) c.args.wanted.now c.args.i c.args.self.now.done (omega (arith, c.requires.here, same_length g.E.Effect.means c.args.rated.now.percents c.args.rated.now.loads.now.records.now)) c.requires.asked c.requires.fresh c.requires.closed c.loop-j.j (omega (arith, c.loop-j-test.true, same_length g.E.Effect.means c.args.rated.now.percents c.args.rated.now.loads.now.records.now)) (omega (arith, c.args.rated.now.loads.now.kept.few, same_length g.E.Effect.means c.args.rated.now.percents c.args.rated.now.loads.now.records.now)) ((c.is_fellow.ensures c.args.rated.now.percents).0 c.if-is_fellow.true) c.loop-j.invariant.1
 
 pub loop-j-init : goal.loop-j-init
 loop-j-init g c = (best_raised c.args.self.now c.requires.room c.requires.best, carrying_none (items_of g.E.Effect.means c.args.rated.now.percents c.args.rated.now.loads.now.records.now) c.args.wanted.now c.args.i c.args.self.now.done c.requires.best.flags, refl, refl)
@@ -40,10 +34,5 @@ loop-j-preserved g c =
       )
     ]
 
-pub returns : goal.returns
-returns g c = record {
-  best = c.loop-j.invariant.0;
-  carried = carrying_all (items_of g.E.Effect.means c.args.rated.now.percents c.args.rated.now.loads.now.records.now) c.args.wanted.now c.args.i c.args.self.now.done c.loop-j.j (omega (arith, c.loop-j-test.false, same_length g.E.Effect.means c.args.rated.now.percents c.args.rated.now.loads.now.records.now)) c.loop-j.invariant.1;
-  groups = c.loop-j.invariant.2;
-  limit = c.loop-j.invariant.3;
-}
+pub returns-clause-carried : goal.returns-clause-carried
+returns-clause-carried g c = carrying_all (items_of g.E.Effect.means c.args.rated.now.percents c.args.rated.now.loads.now.records.now) c.args.wanted.now c.args.i c.args.self.now.done c.loop-j.j (omega (arith, c.loop-j-test.false, same_length g.E.Effect.means c.args.rated.now.percents c.args.rated.now.loads.now.records.now)) c.loop-j.invariant.1

@@ -10,16 +10,6 @@ use Rattle.questions.proofs.Starts.{none_done, blank_best}
 use Rattle.questions.proofs.table.Table.of.Goals as goal
 use Rattle.questions.proofs.table.Table.of.Goals.{then-wanted-i+then-not-table-i, else-wanted-i, else-wanted-i-via-then-wanted-i+else-not-table-i, else-wanted-i-via-else-wanted-i}
 
-pub carry-requires : goal.carry-requires
-carry-requires g c = record {
-  here = c.loop-i-test.true;
-  asked = c.if-wanted-i.true;
-  fresh = c.if-not-table-i.true;
-  closed = c.loop-i.invariant.1;
-  best = c.loop-i.invariant.0;
-  room = omega (arith, c.loop-i.invariant.4, c.loop-i-test.true, c.args.rated.now.loads.now.kept.few);
-}
-
 pub loop-i-init : goal.loop-i-init
 loop-i-init g c =
     let items = items_of g.E.Effect.means c.args.rated.now.percents c.args.rated.now.loads.now.records.now in
@@ -60,11 +50,3 @@ loop-i-preserved g c =
         inv.5,
       )
     ]
-
-pub returns : goal.returns
-returns g c = record {
-  limit = c.loop-i.invariant.5;
-  best = c.loop-i.invariant.0;
-  all = λ k h m. c.loop-i.invariant.2 k (omega (arith, c.loop-i-test.false)) m;
-  only = c.loop-i.invariant.3;
-}

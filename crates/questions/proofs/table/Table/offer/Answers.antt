@@ -27,8 +27,8 @@ loop-count-preserved g c = (
       c.loop-count.auto.count (omega (arith, c.loop-count-test.true, c.min-end.ensures)) c.requires.best.rows_few c.requires.best.each (λ k d h. c.requires.prior.each k d (omega (arith, c.requires.rows))) c.loop-count.invariant.3 c.stepped-row.ensures,
 )
 
-pub returns : goal.returns
-returns g c =
+pub returns-clause-best : goal.returns-clause-best
+returns-clause-best g c =
     let n = g.E.Effect.means in
     let items = items_of n c.args.rated.now.percents c.args.rated.now.loads.now.records.now in
     let rows = c.loop-count.self.rows in
@@ -43,15 +43,10 @@ returns g c =
     (row_past g.met.E.Effect.lawful light c.requires.opens c.args.self.now.groups bound k (get_or c.args.self.now.rows k d) (omega (arith, c.loop-count-test.false, c.min-end.ensures)) (c.requires.best.each k d h)))
     (cases_lt k c.loop-count.count) in
     record {
-      best = record {
-        size = c.loop-count.invariant.3.size;
-        flags = ap length same ∙ length-set c.args.self.now.done c.args.j true ∙ c.requires.best.flags;
-        few = omega (arith, c.loop-count.invariant.1, c.requires.best.few);
-        rows_few = omega (arith, c.loop-count.invariant.2, c.requires.best.rows_few);
-        bound = subst (λ (f : List Bool). TakesAtMost items f c.loop-count.self.groups) (sym same) (subst (TakesAtMost items flags) (sym c.loop-count.invariant.1) bound);
-        each = λ k d h. subst (λ (f : List Bool). RowBest n items f k (get_or rows k d)) (sym same) (each k d (omega (arith, c.loop-count.invariant.2)));
-      };
-      done = same;
-      groups = c.loop-count.invariant.1;
-      limit = c.loop-count.invariant.2;
+      size = c.loop-count.invariant.3.size;
+      flags = ap length same ∙ length-set c.args.self.now.done c.args.j true ∙ c.requires.best.flags;
+      few = omega (arith, c.loop-count.invariant.1, c.requires.best.few);
+      rows_few = omega (arith, c.loop-count.invariant.2, c.requires.best.rows_few);
+      bound = subst (λ (f : List Bool). TakesAtMost items f c.loop-count.self.groups) (sym same) (subst (TakesAtMost items flags) (sym c.loop-count.invariant.1) bound);
+      each = λ k d h. subst (λ (f : List Bool). RowBest n items f k (get_or rows k d)) (sym same) (each k d (omega (arith, c.loop-count.invariant.2)));
     }
