@@ -1,8 +1,8 @@
 -- Entries, and the records that they write.
-use Rattle.std.specs.Prelude.{◌≡◌, ℕ, ◌<◌, ◌≤◌, List, length, take, Some, None, Option, slice_index_or}
+use Rattle.std.specs.Prelude.{◌≡◌, ℕ, ◌<◌, ◌≤◌, List, length, take, Some, None, Option, ◌≢◌, slice_index_or}
 use Rattle.effect.specs.Models.{of_force}
 use Rattle.effect.specs.declared.newtons.N.{N}
-use Rattle.loads.specs.Letters.{letter_of, KindOf}
+use Rattle.loads.specs.Letters.{letter_of}
 use Rattle.loads.specs.declared.kinds.Kind.{Kind}
 use Rattle.loads.specs.declared.records.Record.{Record}
 use Rattle.bench_entry.specs.declared.entries.Entry.{Entry}
@@ -38,7 +38,7 @@ Unwritten es = (rs : List (Record N)) → length rs ≤ 32 → WritesAll es rs �
 
 -- the record that is written, or the letter stands for no kind
 abbrev pub Reads : Entry → Option (Record N) → Type 0
-Reads e None = KindOf e.letter None
+Reads e None = (k : Kind) → letter_of k ≢ e.letter
 Reads e (Some r) = Writes e r
 
 -- the records that are written, at the front of a list, or none are

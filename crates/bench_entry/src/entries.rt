@@ -43,7 +43,7 @@ fn record(kind: Kind, entry: &Entry) -> Record<N>
 fn read(entry: &Entry) -> Option<Record<N>>
     ensures { Reads entry.now result }
 {
-    let kind = Kind::of_letter(entry.letter as char)?;
+    let kind = Kind::try_from(char::from(entry.letter)).ok()?;
     Some(record(kind, entry))
 }
 

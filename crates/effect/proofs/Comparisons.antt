@@ -1,5 +1,5 @@
 -- What the laws of an effect type give of the answers of generic code.
-use Rattle.std.proofs.Common.{◌≡◌, ℕ, Some, None, Option, Ordering, sym, refl, ◌∙◌, inl, inr}
+use Rattle.std.proofs.Common.{◌≡◌, ℕ, None, Option, Ordering, sym, refl, ◌∙◌, inl, inr}
 use Rattle.effect.specs.Laws.{Operations, Laws, AtMost}
 use Rattle.effect.specs.Orders.{SumsKeepOrder, Larger, LargerOf, Ordered}
 use Rattle.effect.specs.Sums.{Counted}

@@ -4,6 +4,7 @@ ghost use Rattle.listing.specs.NormTables.{percents_by, row_of, row_text, rows_o
 
 use norm::{InSpecial, Norm, NormName, Snip85, Sp20, SpecialNorm, Term};
 use std::fmt;
+use words::Word;
 
 // Which combinations a percentage is for.
 #[derive(Clone, Copy, PartialEq, Eq, Debug)]
