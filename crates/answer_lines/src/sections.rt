@@ -1,12 +1,12 @@
 // The records of a choice that are shown together.
 ghost use Rattle.std.specs.Prelude.{◌≡◌, [], ◌∷◌, ◌++◌, if◌then◌else◌, decimal};
-ghost use Rattle.combination.specs.Choices.{lines_of};
+ghost use Rattle.combination.specs.Choices.{line_of, lines_of};
 ghost use Rattle.loads.specs.Letters.{letter_of};
 ghost use Rattle.writing.specs.Writing.{Writes};
 ghost use Rattle.lines.specs.Reading.{spaced};
 ghost use Rattle.answer_lines.specs.Lines.{details, line_text, section_text, shows as is_shown_line};
 
-use combination::{Choice, Pick};
+use combination::{Choice, Picked};
 use loads::{Kind, Record};
 use norm::Role;
 use writing::Writer;
@@ -23,13 +23,14 @@ pub(crate) enum Section {
 
 impl Section {
     // Whether it shows a record.
-    fn shows<E>(self, of: &Record<E>, pick: Pick) -> bool
-        ensures { result ≡ is_shown_line self (of.now, pick) }
+    fn shows<E>(self, line: &Picked<E>) -> bool
+        ensures { result ≡ is_shown_line self (line_of line.now) }
     {
+        let kind = line.of.kind;
         match self {
-            Section::Factors => of.kind == Kind::Permanent,
-            Section::InRole(kind, role, _) => of.kind == kind && pick.role() == Some(role),
-            Section::Taken => of.kind == Kind::Special && pick.is_taken(),
+            Section::Factors => kind == Kind::Permanent,
+            Section::InRole(of, role, _) => of == kind && line.pick.role() == Some(role),
+            Section::Taken => kind == Kind::Special && line.pick.is_taken(),
         }
     }
 }
@@ -44,11 +45,11 @@ fn start<E>(out: &mut Writer, of: &Record<E>)
 }
 
 // What a section shows of a record besides its number and kind, each after one blank.
-fn write_details<E>(out: &mut Writer, section: Section, of: &Record<E>, pick: Pick)
-    ensures { Writes out.old (spaced decimal (details section (of.now, pick)) []) out.new }
+fn write_details<E>(out: &mut Writer, section: Section, line: &Picked<E>)
+    ensures { Writes out.old (spaced decimal (details section (line_of line.now)) []) out.new }
 {
     match section {
-        Section::Factors => out.field(pick.factor(&of.load)),
+        Section::Factors => out.field(line.pick.factor(&line.of.load)),
         Section::InRole(_, role, percent) => {
             out.field(role.number());
             out.field(percent);
@@ -58,20 +59,20 @@ fn write_details<E>(out: &mut Writer, section: Section, of: &Record<E>, pick: Pi
 }
 
 // The line of a record.
-fn write_line<E>(out: &mut Writer, section: Section, of: &Record<E>, pick: Pick)
-    ensures { Writes out.old (line_text section (of.now, pick)) out.new }
+fn write_line<E>(out: &mut Writer, section: Section, line: &Picked<E>)
+    ensures { Writes out.old (line_text section (line_of line.now)) out.new }
 {
-    start(out, of);
-    write_details(out, section, of, pick);
+    start(out, line.of);
+    write_details(out, section, line);
     out.put(b'\n');
 }
 
 // The same, where the section shows the record.
-fn write_if_shown<E>(out: &mut Writer, section: Section, of: &Record<E>, pick: Pick)
-    ensures { Writes out.old (if is_shown_line section (of.now, pick) then line_text section (of.now, pick) else []) out.new }
+fn write_if_shown<E>(out: &mut Writer, section: Section, line: &Picked<E>)
+    ensures { Writes out.old (if is_shown_line section (line_of line.now) then line_text section (line_of line.now) else []) out.new }
 {
-    if section.shows(of, pick) {
-        write_line(out, section, of, pick);
+    if section.shows(line) {
+        write_line(out, section, line);
     }
 }
 
@@ -80,6 +81,6 @@ pub(crate) fn write_section<E>(out: &mut Writer, section: Section, choice: &Choi
     ensures { Writes out.old (section_text section (lines_of choice.now)) out.new }
 {
     for (of, pick) in choice.records.iter().zip(choice.picks) {
-        write_if_shown(out, section, of, *pick);
+        write_if_shown(out, section, &Picked { of, pick: *pick });
     }
 }

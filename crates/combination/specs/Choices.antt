@@ -9,6 +9,7 @@ use Rattle.norm.specs.declared.roles.Role.{Role}
 use Rattle.norm.specs.declared.roles.Role.TheVariants.{Leading, Second, Other}
 use Rattle.combination.specs.Lists.{Among, EachTwo, count}
 use Rattle.combination.specs.declared.choice.Choice.{Choice}
+use Rattle.combination.specs.declared.choice.Picked.{Picked}
 use Rattle.combination.specs.declared.picks.Pick.{Pick}
 use Rattle.combination.specs.declared.picks.Pick.TheVariants.{Upper, Lower, Out, As, Taken}
 use Rattle.combination.specs.declared.questions.Question.{Question}
@@ -70,6 +71,9 @@ module _ {E : Type 0} where
   -- the records with their picks, place by place
   abbrev pub lines : List (Record E) → List Pick → List (Line E)
   lines rs ps = zip rs ps
+
+  abbrev pub line_of : Picked E → Line E
+  line_of x = (x.of.now, x.pick)
 
   abbrev pub lines_of : Choice E → List (Line E)
   lines_of c = lines c.records.now c.picks.now

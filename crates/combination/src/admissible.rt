@@ -1,44 +1,47 @@
 // Which choices are admissible.
 ghost use Rattle.std.specs.Prelude.{Decides};
 ghost use Rattle.std.specs.List.{AllByRecursion};
-ghost use Rattle.combination.specs.Choices.{lines, lines_of, picks_for, Fits, Apart, Roles, Admissible};
-ghost use Rattle.combination.specs.Lists.{Among, EachTwo};
+ghost use Rattle.combination.specs.Choices.{line_of, lines_of, Fits, Apart, Roles, Admissible};
+ghost use Rattle.combination.specs.Lists.{EachTwo};
 
-use crate::choice::Choice;
+use crate::choice::{Choice, Picked};
 use crate::picks::Pick;
 use crate::questions::Question;
-use loads::{Kind, Record};
+use loads::Kind;
 use norm::Role;
 
-// Whether a pick is one for a kind.
-fn is_for(kind: Kind, pick: Pick) -> bool
-    ensures { Decides result (Among (picks_for kind) pick) }
-{
-    match pick {
-        Pick::Upper | Pick::Lower => kind == Kind::Permanent,
-        Pick::Out => kind != Kind::Permanent,
-        Pick::As(_) => kind == Kind::LongTerm || kind == Kind::ShortTerm,
-        Pick::Taken => kind == Kind::Special,
+impl<'a, E> Picked<'a, E> {
+    // Whether the pick is one for the record's kind.
+    fn is_fit(&self) -> bool
+        ensures { Decides result (Fits (line_of self.now)) }
+    {
+        let kind = self.of.kind;
+        match self.pick {
+            Pick::Upper | Pick::Lower => kind == Kind::Permanent,
+            Pick::Out => kind != Kind::Permanent,
+            Pick::As(_) => kind == Kind::LongTerm || kind == Kind::ShortTerm,
+            Pick::Taken => kind == Kind::Special,
+        }
     }
-}
 
-// Whether two records are not both taken where they share a group.
-fn is_apart<E>(a: &Record<E>, a_pick: Pick, b: &Record<E>, b_pick: Pick) -> bool
-    ensures { Decides result (Apart (a.now, a_pick) (b.now, b_pick)) }
-{
-    let share_group = a.load.group != 0 && a.load.group == b.load.group;
-    !(share_group && a_pick.is_taken() && b_pick.is_taken())
-}
+    // Whether two records are not both taken where they share a group.
+    fn is_apart(&self, other: &Picked<E>) -> bool
+        ensures { Decides result (Apart (line_of self.now) (line_of other.now)) }
+    {
+        let (a, b) = (self.of.load.group, other.of.load.group);
+        !(a != 0 && a == b && self.pick.is_taken() && other.pick.is_taken())
+    }
 
-// Whether a record is apart from all of a choice.
-fn apart_from_all<E>(of: &Record<E>, pick: Pick, others: &Choice<E>) -> bool
-    ensures { Decides result (AllByRecursion (Apart (of.now, pick)) (lines_of others.now)) }
-{
-    others.records.iter().zip(others.picks).all(
-        |(other, its)|
-            ensures { Decides result (Apart (of.entry.now, pick) (other.entry.now, its.entry.now)) }
-        { is_apart(of, pick, other, *its) },
-    )
+    // Whether it is apart from all of a choice.
+    fn is_apart_from_all(&self, others: &Choice<E>) -> bool
+        ensures { Decides result (AllByRecursion (Apart (line_of self.now)) (lines_of others.now)) }
+    {
+        others.records.iter().zip(others.picks).all(
+            |(of, pick)|
+                ensures { Decides result (Apart (line_of self.entry.now) (of.entry.now, pick.entry.now)) }
+            { self.is_apart(&Picked { of, pick: *pick }) },
+        )
+    }
 }
 
 impl<'a, E> Choice<'a, E> {
@@ -62,7 +65,7 @@ impl<'a, E> Choice<'a, E> {
         self.records.iter().zip(self.picks).all(
             |(of, pick)|
                 ensures { Decides result (Fits (of.entry.now, pick.entry.now)) }
-            { is_for(of.kind, *pick) },
+            { Picked { of, pick: *pick }.is_fit() },
         )
     }
 
@@ -72,7 +75,8 @@ impl<'a, E> Choice<'a, E> {
     {
         let mut rest = (self.records, self.picks);
         while let ([of, records @ ..], [pick, picks @ ..]) = rest {
-            if !apart_from_all(of, *pick, &Choice { records, picks }) {
+            let pick = *pick;
+            if !(Picked { of, pick }).is_apart_from_all(&Choice { records, picks }) {
                 return false;
             }
             rest = (records, picks);

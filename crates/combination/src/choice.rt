@@ -14,6 +14,13 @@ pub struct Choice<'a, E> {
     pub picks: &'a [Pick],
 }
 
+// One record, with what a choice does with it.
+#[derive(Drop)]
+pub struct Picked<'a, E> {
+    pub of: &'a Record<E>,
+    pub pick: Pick,
+}
+
 fn is_counted(role: Option<Role>, pick: Pick) -> bool
     ensures { result ≡ is_counted_pick role pick }
 {

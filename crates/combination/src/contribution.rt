@@ -5,10 +5,10 @@ ghost use Rattle.reduction.specs.Factor.{InRange, factor_of};
 ghost use Rattle.combination.specs.Computing.{Bounded, by_role, by_table};
 ghost use Rattle.combination.specs.Worst.{permanent as always, temporary as in_role, special as if_taken, contribution as contributed};
 
+use crate::choice::Picked;
 use crate::percents::{Percents, Table};
-use crate::picks::Pick;
 use effect::{Effect, multiple_if};
-use loads::{Kind, Load, Record};
+use loads::{Kind, Load};
 use reduction::factor;
 
 // The factor of the reduction, in ten-thousandths; 0 where there is none.
@@ -26,36 +26,41 @@ fn weighted<E: Effect>(effect: E, factor: u64, weight: u64, taken: bool) -> E
     multiple_if(effect, taken.then_some(factor.saturating_mul(weight)))
 }
 
-// A permanent load always counts, by the factor that is chosen.
-fn permanent<E: Effect>(pick: Pick, of: &Record<E>) -> E
-    ensures { Ruled E.Effect.means of.now → result ≡ always E.Effect.means pick of.now }
-{
-    weighted(of.load.effect, pick.factor(&of.load), 1_000_000, true)
-}
+impl<'a, E: Effect> Picked<'a, E> {
+    // A permanent load always counts, by the factor that is chosen.
+    fn permanent(&self) -> E
+        ensures { Ruled E.Effect.means self.now.of.now → result ≡ always E.Effect.means self.now.pick self.now.of.now }
+    {
+        let load = &self.of.load;
+        weighted(load.effect, self.pick.factor(load), 1_000_000, true)
+    }
 
-// A long-term or short-term load counts where it is taken, reduced and by the percentage of its role.
-fn temporary<E: Effect>(percents: Percents, pick: Pick, of: &Record<E>) -> E
-    ensures { Ruled E.Effect.means of.now → Bounded percents → result ≡ in_role E.Effect.means (by_role percents) pick of.now }
-{
-    let weight = reduction_of(&of.load).saturating_mul(percents.at(pick.role()));
-    weighted(of.load.effect, of.load.upper, weight, pick.is_taken())
-}
+    // A long-term or short-term load counts where it is taken, reduced and by the percentage of its role.
+    fn temporary(&self, percents: Percents) -> E
+        ensures { Ruled E.Effect.means self.now.of.now → Bounded percents → result ≡ in_role E.Effect.means (by_role percents) self.now.pick self.now.of.now }
+    {
+        let load = &self.of.load;
+        let weight = reduction_of(load).saturating_mul(percents.at(self.pick.role()));
+        weighted(load.effect, load.upper, weight, self.pick.is_taken())
+    }
 
-// A special load counts where it is taken.
-fn special<E: Effect>(pick: Pick, of: &Record<E>) -> E
-    ensures { Ruled E.Effect.means of.now → result ≡ if_taken E.Effect.means pick of.now }
-{
-    weighted(of.load.effect, of.load.upper, 1_000_000, pick.is_taken())
-}
+    // A special load counts where it is taken.
+    fn special(&self) -> E
+        ensures { Ruled E.Effect.means self.now.of.now → result ≡ if_taken E.Effect.means self.now.pick self.now.of.now }
+    {
+        let load = &self.of.load;
+        weighted(load.effect, load.upper, 1_000_000, self.pick.is_taken())
+    }
 
-// What a record contributes, a long-term or short-term load by the percentage of its role in the table.
-pub(crate) fn contribution<E: Effect>(table: &Table, pick: Pick, of: &Record<E>) -> E
-    ensures { Ruled E.Effect.means of.now → Bounded table.now.long → Bounded table.now.short → result ≡ contributed E.Effect.means (by_table table.now) 0 0 of.now.kind pick of.now }
-{
-    match of.kind {
-        Kind::Permanent => permanent(pick, of),
-        Kind::LongTerm => temporary(table.long, pick, of),
-        Kind::ShortTerm => temporary(table.short, pick, of),
-        Kind::Special => special(pick, of),
+    // What the record contributes, a long-term or short-term load by the percentage of its role in the table.
+    pub(crate) fn contribution(&self, table: &Table) -> E
+        ensures { Ruled E.Effect.means self.now.of.now → Bounded table.now.long → Bounded table.now.short → result ≡ contributed E.Effect.means (by_table table.now) 0 0 self.now.of.now.kind self.now.pick self.now.of.now }
+    {
+        match self.of.kind {
+            Kind::Permanent => self.permanent(),
+            Kind::LongTerm => self.temporary(table.long),
+            Kind::ShortTerm => self.temporary(table.short),
+            Kind::Special => self.special(),
+        }
     }
 }

@@ -14,7 +14,7 @@ mod tests;
 mod totals;
 
 pub use answers::Answer;
-pub use choice::Choice;
+pub use choice::{Choice, Picked};
 pub use examples::{TwoLists, entered_two_ways};
 pub use percents::{Percents, Table};
 pub use picks::Pick;

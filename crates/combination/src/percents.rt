@@ -3,7 +3,7 @@ ghost use Rattle.std.specs.Prelude.{◌≡◌};
 ghost use Rattle.combination.specs.Choices.{number_or_0};
 ghost use Rattle.combination.specs.Computing.{Asked, by_role};
 
-use norm::{Norm, Role, Term};
+use norm::{Norm, Role, Taken, Term};
 
 // The percentages of the three roles of a term.
 #[derive(Clone, Copy, PartialEq, Eq, Debug)]
@@ -22,13 +22,13 @@ pub struct Table {
 
 impl Percents {
     // Those of a norm for one term and the numbers taken.
-    pub(crate) fn of<M: Norm>(norm: &M, term: Term, long: u64, short: u64) -> Percents
-        ensures { Asked (M.Norm.percentages norm.now) term long short result }
+    pub(crate) fn of<M: Norm>(norm: &M, term: Term, taken: Taken) -> Percents
+        ensures { Asked (M.Norm.percentages norm.now) term taken.long taken.short result }
     {
         Percents {
-            leading: norm.percent(term, 1, long, short),
-            second: norm.percent(term, 2, long, short),
-            other: norm.percent(term, 3, long, short),
+            leading: norm.percent(term, 1, taken),
+            second: norm.percent(term, 2, taken),
+            other: norm.percent(term, 3, taken),
         }
     }
 

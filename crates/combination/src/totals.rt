@@ -4,12 +4,11 @@ ghost use Rattle.combination.specs.Choices.{lines_of};
 ghost use Rattle.combination.specs.Combined.{Combined};
 ghost use Rattle.combination.specs.Computing.{AskedFor};
 
-use crate::choice::Choice;
-use crate::contribution::contribution;
+use crate::choice::{Choice, Picked};
 use crate::percents::{Percents, Table};
 use effect::Effect;
 use loads::Kind;
-use norm::{Norm, Term};
+use norm::{Norm, Taken, Term};
 
 // The sum of what the records contribute, by a table that was asked of any norm.
 fn sum_contributions<E: Effect>(table: &Table, choice: &Choice<E>) -> E
@@ -17,7 +16,7 @@ fn sum_contributions<E: Effect>(table: &Table, choice: &Choice<E>) -> E
 {
     let mut sum = E::zero();
     for (of, pick) in choice.records.iter().zip(choice.picks) {
-        sum = sum.sum(contribution(table, *pick, of));
+        sum = sum.sum(Picked { of, pick: *pick }.contribution(table));
     }
     sum
 }
@@ -27,11 +26,13 @@ impl<'a, E> Choice<'a, E> {
     pub fn table<M: Norm>(&self, norm: &M) -> Table
         ensures { AskedFor (M.Norm.percentages norm.now) (lines_of self.now) result }
     {
-        let long = self.count(Kind::LongTerm, None);
-        let short = self.count(Kind::ShortTerm, None);
+        let taken = Taken {
+            long: self.count(Kind::LongTerm, None),
+            short: self.count(Kind::ShortTerm, None),
+        };
         Table {
-            long: Percents::of(norm, Term::Long, long, short),
-            short: Percents::of(norm, Term::Short, long, short),
+            long: Percents::of(norm, Term::Long, taken),
+            short: Percents::of(norm, Term::Short, taken),
         }
     }
 }

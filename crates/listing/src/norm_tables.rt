@@ -2,7 +2,7 @@
 ghost use Rattle.std.specs.Prelude.{◌≡◌, Some};
 ghost use Rattle.listing.specs.NormTables.{percents_by, row_of, row_text, rows_of, combination_word, in_combination, word_of_term};
 
-use norm::{InSpecial, Norm, NormName, Snip85, Sp20, SpecialNorm, Term};
+use norm::{InSpecial, Norm, NormName, Snip85, Sp20, SpecialNorm, Taken, Term};
 use std::fmt;
 use words::Word;
 
@@ -36,21 +36,21 @@ fn term_word(term: Term) -> &'static str
     }
 }
 
-// The percentages of the roles 1, 2 and 3, where `long` long-term and `short` short-term loads are taken.
-fn percents<N: Norm>(norm: &N, term: Term, long: u64, short: u64) -> [u64; 3]
-    ensures { result ≡ percents_by (N.percentages norm.now) term long short }
+// The percentages of the roles 1, 2 and 3 for the numbers of loads taken.
+fn percents<N: Norm>(norm: &N, term: Term, taken: Taken) -> [u64; 3]
+    ensures { result ≡ percents_by (N.percentages norm.now) term taken.long taken.short }
 {
-    [1, 2, 3].map(|role| norm.percent(term, role, long, short))
+    [1, 2, 3].map(|role| norm.percent(term, role, taken))
 }
 
 impl Combination {
     // The percentages of a norm in this combination.
-    fn percents<N: SpecialNorm>(self, norm: &N, term: Term, long: u64, short: u64) -> [u64; 3]
-        ensures { result ≡ percents_by (in_combination self (N.percentages norm.now) (N.special norm.now)) term long short }
+    fn percents<N: SpecialNorm>(self, norm: &N, term: Term, taken: Taken) -> [u64; 3]
+        ensures { result ≡ percents_by (in_combination self (N.percentages norm.now) (N.special norm.now)) term taken.long taken.short }
     {
         match self {
-            Combination::Basic => percents(norm, term, long, short),
-            Combination::Special => percents(&InSpecial(norm), term, long, short),
+            Combination::Basic => percents(norm, term, taken),
+            Combination::Special => percents(&InSpecial(norm), term, taken),
         }
     }
 }
@@ -65,20 +65,13 @@ pub struct NormRow {
 }
 
 impl NormRow {
-    // The row of a norm, where `long` long-term and `short` short-term loads are taken.
-    // Kept: `long` and `short` apart, as `Norm::percent` takes them; a pair of them would be made by each caller and taken apart at that call.
-    pub fn of_counts(
-        norm: NormName,
-        combination: Combination,
-        term: Term,
-        long: u64,
-        short: u64,
-    ) -> NormRow
-        ensures { result ≡ row_of norm combination term long short }
+    // The row of a norm for the numbers of loads taken.
+    pub fn of_counts(norm: NormName, combination: Combination, term: Term, taken: Taken) -> NormRow
+        ensures { result ≡ row_of norm combination term taken.long taken.short }
     {
         let percents = match norm {
-            NormName::Sp20 => combination.percents(&Sp20, term, long, short),
-            NormName::Snip85 => combination.percents(&Snip85, term, long, short),
+            NormName::Sp20 => combination.percents(&Sp20, term, taken),
+            NormName::Snip85 => combination.percents(&Snip85, term, taken),
         };
         NormRow {
             norm,
@@ -102,8 +95,8 @@ impl fmt::Display for NormRow {
 }
 
 // The rows of a norm: basic and then special, long-term and then short-term.
-pub fn norm_rows(norm: NormName, long: u64, short: u64) -> [NormRow; 4]
-    ensures { result ≡ rows_of norm long short }
+pub fn norm_rows(norm: NormName, taken: Taken) -> [NormRow; 4]
+    ensures { result ≡ rows_of norm taken.long taken.short }
 {
     [
         (Combination::Basic, Term::Long),
@@ -111,5 +104,5 @@ pub fn norm_rows(norm: NormName, long: u64, short: u64) -> [NormRow; 4]
         (Combination::Special, Term::Long),
         (Combination::Special, Term::Short),
     ]
-    .map(|(combination, term)| NormRow::of_counts(norm, combination, term, long, short))
+    .map(|(combination, term)| NormRow::of_counts(norm, combination, term, taken))
 }

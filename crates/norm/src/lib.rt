@@ -6,6 +6,7 @@ pub use percentages::{InSpecial, Norm, SpecialNorm};
 pub use roles::Role;
 pub use snip_85::Snip85;
 pub use sp_20::Sp20;
+pub use taken::Taken;
 pub use terms::Term;
 
 mod names;
@@ -13,6 +14,7 @@ mod percentages;
 mod roles;
 mod snip_85;
 mod sp_20;
+mod taken;
 mod terms;
 #[cfg(test)]
 mod tests;

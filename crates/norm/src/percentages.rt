@@ -2,15 +2,17 @@
 ghost use Rattle.std.specs.Prelude.{◌≡◌};
 ghost use Rattle.norm.specs.Percentages.{Percentages, Ranged, inside};
 
+use crate::taken::Taken;
 use crate::terms::Term;
 
 // The percentage of a load in a basic combination, by its term, the number of its role (1 leading, 2 second, 3 other) and
-// the numbers of long-term and short-term loads taken. It depends on the norm's value and these alone; outside the ranges it is 0.
+// the numbers of loads taken. It depends on the norm's value and these alone; outside the ranges it is 0.
+// Kept: the role is a number, since a norm answers 0 for one that is none, and a `Role` there would ask more of its callers.
 pub trait Norm {
     ghost percentages: { Self → Percentages };
 
-    fn percent(&self, term: Term, role: u64, long: u64, short: u64) -> u64
-        ensures { result ≡ percentages self.now term role long short };
+    fn percent(&self, term: Term, role: u64, taken: Taken) -> u64
+        ensures { result ≡ percentages self.now term role taken.long taken.short };
 
     ghost ranged: { (n : Self) → Ranged (percentages n) };
 }
@@ -19,8 +21,8 @@ pub trait Norm {
 pub trait SpecialNorm: Norm {
     ghost special: { Self → Percentages };
 
-    fn special_percent(&self, term: Term, role: u64, long: u64, short: u64) -> u64
-        ensures { result ≡ special self.now term role long short };
+    fn special_percent(&self, term: Term, role: u64, taken: Taken) -> u64
+        ensures { result ≡ special self.now term role taken.long taken.short };
 
     ghost special_ranged: { (n : Self) → Ranged (special n) };
 }
@@ -34,18 +36,14 @@ impl<'a, M: SpecialNorm> Norm for InSpecial<'a, M> {
 
     ghost ranged = { λ n. M.SpecialNorm.special_ranged n.0.now };
 
-    fn percent(&self, term: Term, role: u64, long: u64, short: u64) -> u64 {
-        self.0.special_percent(term, role, long, short)
+    fn percent(&self, term: Term, role: u64, taken: Taken) -> u64 {
+        self.0.special_percent(term, role, taken)
     }
 }
 
 // Whether a norm may be asked this.
-pub(crate) fn in_range(term: Term, role: u64, long: u64, short: u64) -> bool
-    ensures { result ≡ inside term role long short }
+pub(crate) fn in_range(term: Term, role: u64, taken: Taken) -> bool
+    ensures { result ≡ inside term role taken.long taken.short }
 {
-    let taken = match term {
-        Term::Long => long,
-        Term::Short => short,
-    };
-    role >= 1 && role <= 3 && role <= taken && long <= 32 && short <= 32
+    role >= 1 && role <= 3 && role <= taken.of(term) && taken.long <= 32 && taken.short <= 32
 }

@@ -4,6 +4,7 @@ ghost use Rattle.norm.specs.Tables.{snip85, snip85_special};
 ghost use Rattle.std.proofs.Common.{rules};
 
 use crate::percentages::{Norm, SpecialNorm, in_range};
+use crate::taken::Taken;
 use crate::terms::Term;
 
 #[derive(Clone, Copy)]
@@ -14,10 +15,10 @@ impl Norm for Snip85 {
 
     ghost ranged = { Prim.search rules };
 
-    fn percent(&self, term: Term, role: u64, long: u64, short: u64) -> u64 {
+    fn percent(&self, term: Term, role: u64, taken: Taken) -> u64 {
         match term {
-            _ if !in_range(term, role, long, short) => 0,
-            _ if long + short == 1 => 100,
+            _ if !in_range(term, role, taken) => 0,
+            _ if taken.long + taken.short == 1 => 100,
             Term::Long => 95,
             Term::Short => 90,
         }
@@ -29,9 +30,9 @@ impl SpecialNorm for Snip85 {
 
     ghost special_ranged = { Prim.search rules };
 
-    fn special_percent(&self, term: Term, role: u64, long: u64, short: u64) -> u64 {
+    fn special_percent(&self, term: Term, role: u64, taken: Taken) -> u64 {
         match term {
-            _ if !in_range(term, role, long, short) => 0,
+            _ if !in_range(term, role, taken) => 0,
             Term::Long => 95,
             Term::Short => 80,
         }

@@ -3,6 +3,7 @@ ghost use Rattle.norm.specs.Tables.{sp20, sp20_special};
 ghost use Rattle.std.proofs.Common.{rules};
 
 use crate::percentages::{Norm, SpecialNorm, in_range};
+use crate::taken::Taken;
 use crate::terms::Term;
 
 #[derive(Clone, Copy)]
@@ -13,9 +14,9 @@ impl Norm for Sp20 {
 
     ghost ranged = { Prim.search rules };
 
-    fn percent(&self, term: Term, role: u64, long: u64, short: u64) -> u64 {
+    fn percent(&self, term: Term, role: u64, taken: Taken) -> u64 {
         match (term, role) {
-            _ if !in_range(term, role, long, short) => 0,
+            _ if !in_range(term, role, taken) => 0,
             (_, 1) => 100,
             (Term::Long, _) => 95,
             (Term::Short, 2) => 90,
@@ -29,9 +30,9 @@ impl SpecialNorm for Sp20 {
 
     ghost special_ranged = { Prim.search rules };
 
-    fn special_percent(&self, term: Term, role: u64, long: u64, short: u64) -> u64 {
+    fn special_percent(&self, term: Term, role: u64, taken: Taken) -> u64 {
         match (term, role) {
-            _ if !in_range(term, role, long, short) => 0,
+            _ if !in_range(term, role, taken) => 0,
             (Term::Long, 1) => 100,
             (Term::Long, _) => 95,
             (Term::Short, _) => 80,

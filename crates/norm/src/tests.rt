@@ -22,10 +22,14 @@ const OUTSIDE: [Row; 10] = [
 
 fn answers<N: SpecialNorm>(norm: &N, rows: &[Row]) -> Result<(), Fail> {
     for (term, role, long, short, basic, special) in rows {
-        if norm.percent(*term, *role, *long, *short) != *basic {
+        let taken = Taken {
+            long: *long,
+            short: *short,
+        };
+        if norm.percent(*term, *role, taken) != *basic {
             return Err(Fail::new("another basic percentage"));
         }
-        if norm.special_percent(*term, *role, *long, *short) != *special {
+        if norm.special_percent(*term, *role, taken) != *special {
             return Err(Fail::new("another special percentage"));
         }
     }

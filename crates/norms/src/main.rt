@@ -3,12 +3,12 @@
 
 use lines::number_lines::NumberLines;
 use listing::norm_rows;
-use norm::NormName;
+use norm::{NormName, Taken};
 use std::io;
 use std::io::{BufWriter, Read, Write};
 
-fn print_norm(out: &mut impl Write, norm: NormName, long: u64, short: u64) -> io::Result<()> {
-    for row in norm_rows(norm, long, short) {
+fn print_norm(out: &mut impl Write, norm: NormName, taken: Taken) -> io::Result<()> {
+    for row in norm_rows(norm, taken) {
         writeln!(out, "{row}")?;
     }
     Ok(())
@@ -17,8 +17,9 @@ fn print_norm(out: &mut impl Write, norm: NormName, long: u64, short: u64) -> io
 fn print_tables(out: &mut impl Write, counts: [u64; 2]) -> io::Result<()> {
     let [long, short] = counts;
     writeln!(out, "TAKEN {long} {short}")?;
-    print_norm(out, NormName::Sp20, long, short)?;
-    print_norm(out, NormName::Snip85, long, short)
+    let taken = Taken { long, short };
+    print_norm(out, NormName::Sp20, taken)?;
+    print_norm(out, NormName::Snip85, taken)
 }
 
 fn main(rt: HostRuntime) -> io::Result<()> {

@@ -6,7 +6,7 @@ ghost use Rattle.questions.specs.Items.{Whole};
 ghost use Rattle.questions.specs.Parts.{Agrees, granted};
 
 use combination::Percents;
-use norm::{Norm, Role, Term};
+use norm::{Norm, Role, Taken, Term};
 
 // How many long-term and short-term loads are taken.
 #[derive(Clone, Copy)]
@@ -32,7 +32,11 @@ impl Numbers {
         ensures whole { result ≤ 100 }
     {
         if role.number() <= self.of(term) as u64 {
-            norm.percent(term, role.number(), self.long as u64, self.short as u64)
+            let taken = Taken {
+                long: self.long as u64,
+                short: self.short as u64,
+            };
+            norm.percent(term, role.number(), taken)
         } else {
             last
         }

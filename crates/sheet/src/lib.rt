@@ -3,6 +3,7 @@
 
 mod changes;
 mod checks;
+mod groups;
 mod store;
 #[cfg(test)]
 mod tests;

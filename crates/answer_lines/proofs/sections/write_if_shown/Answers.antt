@@ -5,8 +5,8 @@ use Rattle.answer_lines.proofs.sections.write_if_shown.Goals as goal
 
 pub returns-then-shows : goal.returns-then-shows
 returns-then-shows g c =
-    so (ap (λ b. cond b (line_text c.args.section (c.args.of.now, c.args.pick)) []) (sym c.if-shows.true ∙ c.shows.ensures)) c.write_line.ensures
+    so (ap (λ b. cond b (line_text c.args.section (c.args.line.now.of.now, c.args.line.now.pick)) []) (sym c.if-shows.true ∙ c.shows.ensures)) c.write_line.ensures
 
 pub returns-else-shows : goal.returns-else-shows
 returns-else-shows g c =
-    so (ap (λ b. cond b (line_text c.args.section (c.args.of.now, c.args.pick)) []) (sym c.if-shows.false ∙ c.shows.ensures)) (nothing _)
+    so (ap (λ b. cond b (line_text c.args.section (c.args.line.now.of.now, c.args.line.now.pick)) []) (sym c.if-shows.false ∙ c.shows.ensures)) (nothing _)

@@ -8,8 +8,8 @@ use Rattle.answer_lines.proofs.sections.write_line.Goals as goal
 
 pub returns : goal.returns
 returns g c =
-    let r = c.args.of.now in
-    let ds = details c.args.section (r, c.args.pick) in
+    let r = c.args.line.now.of.now in
+    let ds = details c.args.section (r, c.args.line.now.pick) in
     so
     (append_assoc (decimal r.number) (32 ∷ (letter_of r.kind ∷ [])) (spaced decimal ds [] ++ (10 ∷ [])) ∙ ap (λ l. decimal r.number ++ (32 ∷ (letter_of r.kind ∷ l))) (spaced_append decimal ds [] (10 ∷ [])))
     (then c.start.ensures (then c.write_details.ensures c.put.ensures))
