@@ -1,5 +1,5 @@
 // What is asked of a list of loads.
-ghost use Rattle.std.specs.Prelude.{◌≡◌};
+ghost use Rattle.std.specs.Prelude.{◌≡◌, ◌≤◌};
 ghost use Rattle.combination.specs.Choices.{specials};
 ghost use Rattle.combination.specs.Words.{question_word, question_words};
 
@@ -16,7 +16,8 @@ pub enum Question {
 impl Question {
     // How many special loads it takes.
     pub fn specials(self) -> u64
-        ensures { result ≡ specials self }
+        ensures value { result ≡ specials self }
+        ensures few { result ≤ 1 }
     {
         match self {
             Question::Basic => 0,

@@ -1,6 +1,5 @@
 // The best candidate for one pair of numbers taken.
 ghost use Rattle.std.specs.Prelude.{◌≡◌, ◌≤◌, Some};
-ghost use Rattle.combination.specs.Choices.{specials as special_number};
 ghost use Rattle.questions.specs.Engine.{PairBest, Prepared, Room, four, part_total};
 
 use crate::choice::PartChoice;
@@ -34,17 +33,6 @@ pub(crate) struct Tables<E> {
 pub(crate) struct Candidate<E> {
     pub effect: E,
     pub parts: Parts,
-}
-
-// How many special loads a question takes.
-fn specials(question: Question) -> usize
-    ensures value { result ≡ special_number question }
-    ensures few { result ≤ 1 }
-{
-    match question {
-        Question::Basic => 0,
-        Question::WithSpecial => 1,
-    }
 }
 
 // What choices of each kind come to together with the permanent loads.
@@ -93,7 +81,9 @@ impl<'a, E: Effect, M> Search<'a, E, M> {
         };
         let long = tables.long.best(&by_long, numbers.long)?;
         let short = tables.short.best(&by_short, numbers.short)?;
-        let special = tables.special.best(&whole, specials(self.question))?;
+        let special = tables
+            .special
+            .best(&whole, self.question.specials() as usize)?;
         let parts = Parts {
             long,
             short,
