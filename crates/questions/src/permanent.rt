@@ -11,20 +11,13 @@ use effect::Effect;
 use loads::Kind;
 use std::cmp::Ordering;
 
-fn chosen(pick: Pick, lower: u64, upper: u64) -> u64
-    ensures { result ≡ (if is_lower pick then lower else upper) }
-{
-    if pick.is_lower() { lower } else { upper }
-}
-
 impl<'a, E: Effect> RuledRecord<'a, E> {
     // A permanent load at the factor of a pick.
     fn at_factor(&self, pick: Pick) -> E
         ensures { result ≡ at_factor E.means pick self.now.record.now }
     {
         let load = &self.record.load;
-        let factor = chosen(pick, load.lower, load.upper);
-        load.effect.multiple(factor * 1_000_000)
+        load.effect.multiple(pick.factor(load) * 1_000_000)
     }
 
     // The factor by which a permanent load comes to the most.
