@@ -36,6 +36,7 @@ fn show_numbers<W: fmt::Write>(numbers: &[u64], f: &mut fmt::Formatter<W>) -> fm
 fn show_effect<E: Written, W: fmt::Write>(effect: E, f: &mut fmt::Formatter<W>) -> fmt::Result
     ensures { WritesOnOk W.Write.write_str_gives f.old result (spaced signed_decimal (E.Written.writes.numbers effect) []) f.new }
 {
+    // Kept: a value gives its numbers by place, since how many there are is its type's to say and no slice of them stands in memory.
     for place in 0..E::count() {
         let z = effect.number(place);
         write!(f, " {z}")?;

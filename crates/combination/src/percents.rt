@@ -26,9 +26,9 @@ impl Percents {
         ensures { Asked (M.Norm.percentages norm.now) term taken.long taken.short result }
     {
         Percents {
-            leading: norm.percent(term, 1, taken),
-            second: norm.percent(term, 2, taken),
-            other: norm.percent(term, 3, taken),
+            leading: norm.percent(term, Role::Leading.number(), taken),
+            second: norm.percent(term, Role::Second.number(), taken),
+            other: norm.percent(term, Role::Other.number(), taken),
         }
     }
 

@@ -2,7 +2,7 @@
 ghost use Rattle.std.specs.Prelude.{◌≡◌, Some};
 ghost use Rattle.listing.specs.NormTables.{percents_by, row_of, row_text, rows_of, combination_word, in_combination, word_of_term};
 
-use norm::{InSpecial, Norm, NormName, Snip85, Sp20, SpecialNorm, Taken, Term};
+use norm::{InSpecial, Norm, NormName, Role, Snip85, Sp20, SpecialNorm, Taken, Term};
 use std::fmt;
 use words::Word;
 
@@ -40,7 +40,7 @@ fn term_word(term: Term) -> &'static str
 fn percents<N: Norm>(norm: &N, term: Term, taken: Taken) -> [u64; 3]
     ensures { result ≡ percents_by (N.percentages norm.now) term taken.long taken.short }
 {
-    [1, 2, 3].map(|role| norm.percent(term, role, taken))
+    [Role::Leading, Role::Second, Role::Other].map(|role| norm.percent(term, role.number(), taken))
 }
 
 impl Combination {

@@ -26,6 +26,7 @@ pub fn numbers_of<E>(load: &Load<E>) -> [u64; 6]
 pub fn write_effect<E: Written, S: Style>(out: &mut Writer, effect: E)
     ensures { Writes out.old (spaced S.shown (E.Written.writes.numbers effect) []) out.new }
 {
+    // Kept: a value gives its numbers by place, since how many there are is its type's to say and no slice of them stands in memory.
     for place in 0..E::count() {
         out.put(b' ');
         S::show(out, effect.number(place));

@@ -2,6 +2,7 @@
 use crate::kinds::Kind;
 
 // A load as it is handed in. Factors are in percent, an area is in hundredths of a square metre.
+// Kept: a class is a number, since any may be handed in and the sheet says why it is refused; an enum here would ask more of callers.
 #[derive(Clone, Copy)]
 pub struct Load<E> {
     // loads of one group, other than 0, exclude each other

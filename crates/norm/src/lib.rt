@@ -3,7 +3,7 @@
 
 pub use names::NormName;
 pub use percentages::{InSpecial, Norm, SpecialNorm};
-pub use roles::Role;
+pub use roles::{NoRole, Role};
 pub use snip_85::Snip85;
 pub use sp_20::Sp20;
 pub use taken::Taken;

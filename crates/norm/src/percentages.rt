@@ -1,7 +1,8 @@
 // What a norm is: the percentage at which a load counts in a combination.
 ghost use Rattle.std.specs.Prelude.{◌≡◌};
-ghost use Rattle.norm.specs.Percentages.{Percentages, Ranged, inside};
+ghost use Rattle.norm.specs.Percentages.{AskedRole, Percentages, Ranged};
 
+use crate::roles::Role;
 use crate::taken::Taken;
 use crate::terms::Term;
 
@@ -41,9 +42,13 @@ impl<'a, M: SpecialNorm> Norm for InSpecial<'a, M> {
     }
 }
 
-// Whether a norm may be asked this.
-pub(crate) fn in_range(term: Term, role: u64, taken: Taken) -> bool
-    ensures { result ≡ inside term role taken.long taken.short }
+// The role of this number, where a norm may be asked for it.
+#[tactic(auto, using(crate::proofs::Inside::no_role_inside))]
+pub(crate) fn asked_role(term: Term, role: u64, taken: Taken) -> Option<Role>
+    ensures { AskedRole term role taken.long taken.short result }
 {
-    role >= 1 && role <= 3 && role <= taken.of(term) && taken.long <= 32 && taken.short <= 32
+    match Role::try_from(role) {
+        Ok(asked) if role <= taken.of(term) && taken.long <= 32 && taken.short <= 32 => Some(asked),
+        _ => None,
+    }
 }

@@ -1,6 +1,6 @@
 // The role of a load among the loads of its term that are taken.
 ghost use Rattle.std.specs.Prelude.{◌≡◌};
-ghost use Rattle.norm.specs.Roles.{role_number};
+ghost use Rattle.norm.specs.Roles.{RoleOf, role_number};
 
 #[derive(Clone, Copy, PartialEq, Eq, Debug)]
 pub enum Role {
@@ -18,5 +18,24 @@ impl Role {
         ensures { result ≡ role_number self }
     {
         self as u64
+    }
+}
+
+// A number that no role has.
+#[derive(Clone, Copy, PartialEq, Eq, Debug)]
+pub struct NoRole;
+
+impl TryFrom<u64> for Role {
+    type Error = NoRole;
+
+    ghost try_from_gives = { RoleOf };
+
+    fn try_from(number: u64) -> Result<Role, NoRole> {
+        match number {
+            1 => Ok(Role::Leading),
+            2 => Ok(Role::Second),
+            3 => Ok(Role::Other),
+            _ => Err(NoRole),
+        }
     }
 }

@@ -3,7 +3,7 @@
 ghost use Rattle.norm.specs.Tables.{snip85, snip85_special};
 ghost use Rattle.std.proofs.Common.{rules};
 
-use crate::percentages::{Norm, SpecialNorm, in_range};
+use crate::percentages::{Norm, SpecialNorm, asked_role};
 use crate::taken::Taken;
 use crate::terms::Term;
 
@@ -17,7 +17,7 @@ impl Norm for Snip85 {
 
     fn percent(&self, term: Term, role: u64, taken: Taken) -> u64 {
         match term {
-            _ if !in_range(term, role, taken) => 0,
+            _ if asked_role(term, role, taken).is_none() => 0,
             _ if taken.long + taken.short == 1 => 100,
             Term::Long => 95,
             Term::Short => 90,
@@ -32,7 +32,7 @@ impl SpecialNorm for Snip85 {
 
     fn special_percent(&self, term: Term, role: u64, taken: Taken) -> u64 {
         match term {
-            _ if !in_range(term, role, taken) => 0,
+            _ if asked_role(term, role, taken).is_none() => 0,
             Term::Long => 95,
             Term::Short => 80,
         }

@@ -2,7 +2,8 @@
 ghost use Rattle.norm.specs.Tables.{sp20, sp20_special};
 ghost use Rattle.std.proofs.Common.{rules};
 
-use crate::percentages::{Norm, SpecialNorm, in_range};
+use crate::percentages::{Norm, SpecialNorm, asked_role};
+use crate::roles::Role;
 use crate::taken::Taken;
 use crate::terms::Term;
 
@@ -15,11 +16,11 @@ impl Norm for Sp20 {
     ghost ranged = { Prim.search rules };
 
     fn percent(&self, term: Term, role: u64, taken: Taken) -> u64 {
-        match (term, role) {
-            _ if !in_range(term, role, taken) => 0,
-            (_, 1) => 100,
+        match (term, asked_role(term, role, taken)) {
+            (_, None) => 0,
+            (_, Some(Role::Leading)) => 100,
             (Term::Long, _) => 95,
-            (Term::Short, 2) => 90,
+            (Term::Short, Some(Role::Second)) => 90,
             (Term::Short, _) => 70,
         }
     }
@@ -31,9 +32,9 @@ impl SpecialNorm for Sp20 {
     ghost special_ranged = { Prim.search rules };
 
     fn special_percent(&self, term: Term, role: u64, taken: Taken) -> u64 {
-        match (term, role) {
-            _ if !in_range(term, role, taken) => 0,
-            (Term::Long, 1) => 100,
+        match (term, asked_role(term, role, taken)) {
+            (_, None) => 0,
+            (Term::Long, Some(Role::Leading)) => 100,
             (Term::Long, _) => 95,
             (Term::Short, _) => 80,
         }

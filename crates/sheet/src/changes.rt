@@ -5,6 +5,7 @@ ghost use Rattle.sheet.specs.Ledger.{record_of};
 use loads::{Kind, Load, Record};
 
 // What is handed in for a new or an altered record: its number, the letter of its kind and its load.
+// Kept: a letter and not a kind, since any letter may be handed in and the sheet says why it is refused.
 #[derive(Clone, Copy)]
 pub struct Entry<E> {
     pub number: u64,
