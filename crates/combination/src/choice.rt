@@ -7,7 +7,8 @@ use crate::picks::Pick;
 use loads::{Kind, Record};
 use norm::Role;
 
-// A pick for each record, in the order of the records. Picks past the last record mean nothing, and neither do records past the last pick.
+// A pick for each record, in the order of the records. An admissible choice has as many picks as records; of any other, the picks past the last
+// record and the records past the last pick count for nothing.
 #[derive(Clone, Copy)]
 pub struct Choice<'a, E> {
     pub records: &'a [Record<E>],

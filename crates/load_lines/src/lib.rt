@@ -1,4 +1,5 @@
-// What the lines of a run of calls and of a sheet's text share: the two names of a first line, and the numbers of a load.
+// What the lines of a run of calls, of a sheet's text and of an answer share: words as fields, the two names of a first line, the numbers of a load
+// and those of an effect.
 #![tactic(auto)]
 
 mod load_writer;

@@ -6,7 +6,7 @@ use crate::roles::Role;
 use crate::taken::Taken;
 use crate::terms::Term;
 
-// The percentage of a load in a basic combination, by its term, the number of its role (1 leading, 2 second, 3 other) and
+// The percentage of a load in a combination, by its term, the number of its role (1 leading, 2 second, 3 other) and
 // the numbers of loads taken. It depends on the norm's value and these alone; outside the ranges it is 0.
 // Kept: the role is a number, since a norm answers 0 for one that is none, and a `Role` there would ask more of its callers.
 pub trait Norm {

@@ -7,7 +7,7 @@ use Rattle.questions.specs.declared.choice.PartChoice.{PartChoice}
 use Rattle.norm.specs.declared.roles.Role.{Role}
 use Rattle.norm.specs.declared.roles.Role.TheVariants.{Leading, Second, Other}
 
--- whether a pick takes its record, gives it role 1, gives it role 2: 1 or 0
+-- whether a record with this role is taken, has role 1, has role 2: 1 or 0
 abbrev pub taken : Option Role → ℕ
 taken None = 0
 taken (Some r) = 1

@@ -15,7 +15,7 @@ use effect::Effect;
 use loads::{Kind, Record};
 use norm::{InSpecial, Norm, SpecialNorm};
 
-// What is shown of records that break a rule.
+// What is shown where records break a rule or no choice is admissible.
 fn blank<E: Effect>() -> Answer<E> {
     Answer {
         effect: E::zero(),

@@ -7,7 +7,7 @@ abbrev pub Named : {A : Type 0} → (A → List ℕ) → List ℕ → Option A �
 Named {A} word text r = (a : A) → (r ≡ Some a → text ≡ word a) × (text ≡ word a → r ≡ Some a)
 
 pub record Words {A : Type 0} (word : A → List ℕ) : Type 0 where
-  -- a word has at least one byte, and no blank or control character
+  -- a word has at least one byte, and each of its bytes is above the blank
   pub some : (a : A) → 0 < length (word a)
   pub plain : (a : A) → AllByRecursion (λ b. 32 < b) (word a)
   -- no two cases have one word
