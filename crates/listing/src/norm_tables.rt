@@ -15,14 +15,14 @@ pub enum Combination {
     Special,
 }
 
-impl fmt::Display for Combination {
-    ghost output = { λ x. Some (combination_word x) };
-
-    fn fmt<W: fmt::Write>(&self, f: &mut fmt::Formatter<W>) -> fmt::Result {
-        f.write_str(match self {
+impl Combination {
+    pub fn word(self) -> &'static str
+        ensures { result.now ≡ combination_word self }
+    {
+        match self {
             Combination::Basic => "BASIC",
             Combination::Special => "SPECIAL",
-        })
+        }
     }
 }
 
@@ -87,7 +87,7 @@ impl fmt::Display for NormRow {
 
     fn fmt<W: fmt::Write>(&self, f: &mut fmt::Formatter<W>) -> fmt::Result {
         let norm = self.norm.word();
-        let combination = self.combination;
+        let combination = self.combination.word();
         let term = term_word(self.term);
         let [first, second, third] = self.percents;
         write!(f, "{norm} {combination} {term} {first} {second} {third}")
