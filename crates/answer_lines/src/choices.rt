@@ -5,7 +5,7 @@ ghost use Rattle.combination.specs.Computing.{AskedFor};
 ghost use Rattle.writing.specs.Writing.{Writes};
 ghost use Rattle.answer_lines.specs.Lines.{choice_text, sections_text};
 
-use crate::sections::{Section, write_section};
+use crate::sections::Section;
 use combination::{Choice, Table};
 use loads::Kind;
 use norm::Role;
@@ -16,7 +16,7 @@ fn write_sections<E>(out: &mut Writer, sections: &[Section], choice: &Choice<E>)
     ensures { Writes out.old (sections_text sections.now (lines_of choice.now)) out.new }
 {
     for section in sections {
-        write_section(out, *section, choice);
+        section.write(out, choice);
     }
 }
 

@@ -33,6 +33,47 @@ impl Section {
             Section::Taken => kind == Kind::Special && line.pick.is_taken(),
         }
     }
+
+    // What it shows of a record besides its number and kind, each after one blank.
+    fn write_details<E>(self, out: &mut Writer, line: &Picked<E>)
+        ensures { Writes out.old (spaced decimal (details self (line_of line.now)) []) out.new }
+    {
+        match self {
+            Section::Factors => out.field(line.pick.factor(&line.of.load)),
+            Section::InRole(_, role, percent) => {
+                out.field(role.number());
+                out.field(percent);
+            }
+            Section::Taken => {}
+        }
+    }
+
+    // The line of a record.
+    fn write_line<E>(self, out: &mut Writer, line: &Picked<E>)
+        ensures { Writes out.old (line_text self (line_of line.now)) out.new }
+    {
+        start(out, line.of);
+        self.write_details(out, line);
+        out.put(b'\n');
+    }
+
+    // The same, where it shows the record.
+    fn write_if_shown<E>(self, out: &mut Writer, line: &Picked<E>)
+        ensures { Writes out.old (if is_shown_line self (line_of line.now) then line_text self (line_of line.now) else []) out.new }
+    {
+        if self.shows(line) {
+            self.write_line(out, line);
+        }
+    }
+
+    // The records that it shows, in their order.
+    pub(crate) fn write<E>(self, out: &mut Writer, choice: &Choice<E>)
+        ensures { Writes out.old (section_text self (lines_of choice.now)) out.new }
+    {
+        for (of, pick) in choice.records.iter().zip(choice.picks) {
+            self.write_if_shown(out, &Picked { of, pick: *pick });
+        }
+    }
 }
 
 // The number of a record, and the letter of its kind after one blank.
@@ -42,45 +83,4 @@ fn start<E>(out: &mut Writer, of: &Record<E>)
     out.number(of.number);
     out.put(b' ');
     out.put(of.kind.letter() as u8);
-}
-
-// What a section shows of a record besides its number and kind, each after one blank.
-fn write_details<E>(out: &mut Writer, section: Section, line: &Picked<E>)
-    ensures { Writes out.old (spaced decimal (details section (line_of line.now)) []) out.new }
-{
-    match section {
-        Section::Factors => out.field(line.pick.factor(&line.of.load)),
-        Section::InRole(_, role, percent) => {
-            out.field(role.number());
-            out.field(percent);
-        }
-        Section::Taken => {}
-    }
-}
-
-// The line of a record.
-fn write_line<E>(out: &mut Writer, section: Section, line: &Picked<E>)
-    ensures { Writes out.old (line_text section (line_of line.now)) out.new }
-{
-    start(out, line.of);
-    write_details(out, section, line);
-    out.put(b'\n');
-}
-
-// The same, where the section shows the record.
-fn write_if_shown<E>(out: &mut Writer, section: Section, line: &Picked<E>)
-    ensures { Writes out.old (if is_shown_line section (line_of line.now) then line_text section (line_of line.now) else []) out.new }
-{
-    if section.shows(line) {
-        write_line(out, section, line);
-    }
-}
-
-// The records that a section shows, in their order.
-pub(crate) fn write_section<E>(out: &mut Writer, section: Section, choice: &Choice<E>)
-    ensures { Writes out.old (section_text section (lines_of choice.now)) out.new }
-{
-    for (of, pick) in choice.records.iter().zip(choice.picks) {
-        write_if_shown(out, section, &Picked { of, pick: *pick });
-    }
 }

@@ -19,7 +19,7 @@ mod tests;
 fn place_of(storey: u64) -> Result<usize, Refusal>
     ensures { Place storey result }
 {
-    if storey < 1 || storey > 40 {
+    if !(1..=40).contains(&storey) {
         return Err(Refusal::ColumnValue);
     }
     Ok(storey as usize - 1)
@@ -42,6 +42,7 @@ impl Column {
     }
 
     // Sets a storey, 1 at the top, or changes one that is set. A value outside its range is refused, and then nothing changes.
+    // Kept: class, area and load are three parameters here alone, since `Storey::new` makes one value of them at once.
     pub fn set(&mut self, storey: u64, class: u64, area: u64, load: u64) -> Result<(), Refusal>
         ensures { SetAnswer storey class area load self.old.storeys self.new.storeys result }
     {
@@ -52,6 +53,7 @@ impl Column {
     }
 
     // The full and the reduced load on the section below a storey, in units of 0.00000001 N.
+    // Kept: a pair and no struct: it is taken apart at once by each caller, and the worked example states two of them in one equation.
     pub fn section(&self, storey: u64) -> Result<(u64, u64), Refusal>
         ensures loads { SectionAnswer storey self.now.storeys result }
         ensures ranges { EachInRange self.now.storeys }
@@ -61,6 +63,7 @@ impl Column {
     }
 
     // The number of the lowest storey that is set, or 0 where none is.
+    // Kept: 0 where no storey is set, so that `1..=lowest` is empty then; no storey has the number 0.
     pub fn lowest(&self) -> u64
         ensures { Lowest self.now.storeys result }
     {

@@ -21,10 +21,8 @@ impl Storey {
         ensures bound { (result.0 ≤ 65000000000000000) × (result.1 ≤ result.0) }
     {
         let design = self.load * self.area * load_factor(self.load);
-        match reduction::factor(self.class, self.area, count) {
-            Ok(factor) => (design * 10_000, design * factor),
-            Err(_) => unreachable(),
-        }
+        let factor = reduction::factor(self.class, self.area, count).unwrap();
+        (design * 10_000, design * factor)
     }
 }
 

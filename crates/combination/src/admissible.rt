@@ -28,8 +28,8 @@ impl<'a, E> Picked<'a, E> {
     fn is_apart(&self, other: &Picked<E>) -> bool
         ensures { Decides result (Apart (line_of self.now) (line_of other.now)) }
     {
-        let (a, b) = (self.of.load.group, other.of.load.group);
-        !(a != 0 && a == b && self.pick.is_taken() && other.pick.is_taken())
+        let share_group = self.of.load.shares_group(&other.of.load);
+        !(share_group && self.pick.is_taken() && other.pick.is_taken())
     }
 
     // Whether it is apart from all of a choice.

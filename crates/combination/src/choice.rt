@@ -9,6 +9,7 @@ use norm::Role;
 
 // A pick for each record, in the order of the records. An admissible choice has as many picks as records; of any other, the picks past the last
 // record and the records past the last pick count for nothing.
+// Kept: two slices, since a sheet lends the records and an answer holds the picks; a list of pairs would need memory of its own.
 #[derive(Clone, Copy)]
 pub struct Choice<'a, E> {
     pub records: &'a [Record<E>],
@@ -33,6 +34,7 @@ fn is_counted(role: Option<Role>, pick: Pick) -> bool
 
 impl<'a, E> Choice<'a, E> {
     // How many records of a kind are taken, in a role where one is given.
+    // Kept: an `Option` of a role and not a closure, of which each caller would have to show what it answers.
     pub(crate) fn count(&self, kind: Kind, role: Option<Role>) -> u64
         ensures { result ≡ counted kind role (lines_of self.now) }
     {

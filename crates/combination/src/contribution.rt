@@ -9,14 +9,13 @@ use crate::choice::Picked;
 use crate::percents::{Percents, Table};
 use effect::{Effect, multiple_if};
 use loads::{Kind, Load};
-use reduction::factor;
 
 // The factor of the reduction, in ten-thousandths; 0 where there is none.
 fn reduction_of<E>(load: &Load<E>) -> u64
     ensures value { InRange load.now.class load.now.area load.now.storeys → result ≡ factor_of load.now.class load.now.area load.now.storeys }
     ensures most { result ≤ 10000 }
 {
-    factor(load.class, load.area, load.storeys).unwrap_or(0)
+    load.reduction_factor().unwrap_or(0)
 }
 
 // An effect times a factor and a weight where it is taken, zero where it is not.

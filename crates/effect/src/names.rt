@@ -5,9 +5,7 @@ use words::Word;
 
 #[derive(Clone, Copy, PartialEq, Eq, Debug)]
 pub enum EffectName {
-    // N
     N,
-    // NM
     Nm,
 }
 

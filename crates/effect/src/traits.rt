@@ -6,6 +6,7 @@ ghost use Rattle.effect.specs.Notations.{Notation, NotationLaws};
 use std::cmp::Ordering;
 
 // An effect type: values with a sum, multiples by a whole number from 0 upward, a total order and a reach, which says how large a value is.
+// Kept: `compare`, `sum` and `zero` and not bounds `Ord`, `Add` and `Default`: those would ask a type for `PartialOrd`, `Eq` and sums without a limit.
 // A sum is owed while the reaches together are at most `limit`, a multiple while the multiplied reach is; beyond that what they give is left free.
 pub trait Effect: Copy {
     // What the methods answer.
@@ -38,7 +39,7 @@ pub trait Written: Effect {
     // How many numbers write a value.
     const NUMBERS: usize;
 
-    // `NUMBERS`, as generic code knows it: a constant has no contract.
+    // Kept: `NUMBERS` once more as a function, since a constant has no contract and generic code knows the number by one.
     fn count() -> usize
         ensures { result ≡ writes.count };
 

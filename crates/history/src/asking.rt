@@ -15,8 +15,8 @@ use norm::{Norm, SpecialNorm};
 use refusals::Refusal;
 use sheet::Sheet;
 
-// Kept: norm and sheet stay two parameters: any norm may be asked of any sheet, and a change needs the sheet alone.
 // The worst basic combination, whatever the norm's second answer, if it has one.
+// Kept: norm and sheet stay two parameters: any norm may be asked of any sheet, and a change needs the sheet alone.
 pub(crate) fn basic<E: Effect, M: Norm>(norm: &M, sheet: &Sheet<E>) -> Answer<E>
     ensures { (special : Percentages) → Stepped E.Effect.means (both (M.Norm.percentages norm.now) special) (places_of sheet.now) (held sheet.now) (Ask Basic) (answer_of (Ok result)) (held sheet.now) }
 {

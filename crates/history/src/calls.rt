@@ -9,8 +9,7 @@ pub enum Call<E> {
 }
 
 // The calls without the special question, for a norm that has no answer to it.
-// Kept: an enum of its own beside `Call`, and a function of its own beside `perform`: one of both would need a trait for what a norm can be asked,
-// with its laws, which is longer than the two cases here.
+// Kept: an enum and a function of their own beside `Call` and `perform`: one of both would need a trait, with laws, for what a norm can be asked.
 #[derive(Clone, Copy)]
 pub enum BasicCall<E> {
     Change(Change<E>),

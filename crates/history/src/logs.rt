@@ -10,8 +10,8 @@ pub struct Turn<E> {
     pub held: usize,
 }
 
-// Kept: one list of pages beside the turns: the caller lends the memory of both, and a list in each turn would allocate at every call.
 // How many records the sheet held when it was opened, a turn for each call, and the records that the sheet held after each, one page after another.
+// Kept: one list of pages beside the turns: the caller lends the memory of both, and a list in each turn would allocate at every call.
 #[derive(Drop)]
 pub struct Log<E: Effect> {
     pub opened: usize,

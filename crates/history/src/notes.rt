@@ -34,6 +34,7 @@ impl<E: Effect> Log<E> {
     {
         let held = records.len();
         self.turns.push_reserved(Turn { outcome, held });
+        // Kept: the error is dropped, since `room` says that there is memory for 32 records, and of a slice there is no `push_reserved`.
         let _ = self.pages.extend_from_slice(records);
     }
 }

@@ -17,7 +17,7 @@ pub fn worst_basic<E: Effect, M: Norm>(norm: &M, sheet: &Sheet<E>) -> Answer<E>
     basic(norm, sheet)
 }
 
-// The worst special combination, refused with 10 where there is no special load.
+// The worst special combination, refused where there is no special load.
 pub fn worst_special<E: Effect, M: SpecialNorm>(
     norm: &M,
     sheet: &Sheet<E>,

@@ -7,6 +7,7 @@ use std::fmt;
 use words::Word;
 
 // Which combinations a percentage is for.
+// Kept: beside `combination::Question`, since the tables of the norms stand on the norms alone.
 #[derive(Clone, Copy, PartialEq, Eq, Debug)]
 pub enum Combination {
     // without a special load
@@ -26,7 +27,7 @@ impl Combination {
     }
 }
 
-// Kept: `Term` is another crate's, so `Display` would need a struct round it here, which is longer than this function.
+// Kept: a word for the tables alone: `Word` for a term would bring a reading that nothing asks for.
 fn term_word(term: Term) -> &'static str
     ensures { result.now ≡ word_of_term term }
 {
@@ -36,7 +37,7 @@ fn term_word(term: Term) -> &'static str
     }
 }
 
-// The percentages of the roles 1, 2 and 3 for the numbers of loads taken.
+// The percentages of the leading, the second and any other role, for the numbers of loads taken.
 fn percents<N: Norm>(norm: &N, term: Term, taken: Taken) -> [u64; 3]
     ensures { result ≡ percents_by (N.percentages norm.now) term taken.long taken.short }
 {
@@ -55,7 +56,7 @@ impl Combination {
     }
 }
 
-// The percentages of the roles 1, 2 and 3, where some numbers of loads are taken.
+// The percentages of the leading, the second and any other role, where some numbers of loads are taken.
 #[derive(Clone, Copy, PartialEq, Debug)]
 pub struct NormRow {
     pub norm: NormName,
@@ -69,6 +70,7 @@ impl NormRow {
     pub fn of_counts(norm: NormName, combination: Combination, term: Term, taken: Taken) -> NormRow
         ensures { result ≡ row_of norm combination term taken.long taken.short }
     {
+        // Kept: the norm of a name by a match, here and where a text or a run is read: a norm that a name picks at run time would match at each percentage.
         let percents = match norm {
             NormName::Sp20 => combination.percents(&Sp20, term, taken),
             NormName::Snip85 => combination.percents(&Snip85, term, taken),

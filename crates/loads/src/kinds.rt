@@ -14,6 +14,7 @@ pub enum Kind {
 
 impl Kind {
     // The letter of this kind.
+    // Kept: `kind.letter()` says at a call what `char::from(kind)` leaves out.
     pub fn letter(self) -> char
         ensures { result ≡ letter_of self }
     {

@@ -5,9 +5,7 @@ use words::Word;
 
 #[derive(Clone, Copy, PartialEq, Eq, Debug)]
 pub enum NormName {
-    // SP20
     Sp20,
-    // SNIP85
     Snip85,
 }
 

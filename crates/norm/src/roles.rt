@@ -14,6 +14,7 @@ pub enum Role {
 
 impl Role {
     // The number of this role, by which a norm is asked.
+    // Kept: as for a refusal, `role.number()` says at a call what `u64::from(role)` leaves out.
     pub fn number(self) -> u64
         ensures { result ≡ role_number self }
     {

@@ -16,11 +16,11 @@ impl Norm for Snip85 {
     ghost ranged = { Prim.search rules };
 
     fn percent(&self, term: Term, role: u64, taken: Taken) -> u64 {
-        match term {
-            _ if asked_role(term, role, taken).is_none() => 0,
+        match (term, asked_role(term, role, taken)) {
+            (_, None) => 0,
             _ if taken.long + taken.short == 1 => 100,
-            Term::Long => 95,
-            Term::Short => 90,
+            (Term::Long, _) => 95,
+            (Term::Short, _) => 90,
         }
     }
 }
@@ -31,10 +31,10 @@ impl SpecialNorm for Snip85 {
     ghost special_ranged = { Prim.search rules };
 
     fn special_percent(&self, term: Term, role: u64, taken: Taken) -> u64 {
-        match term {
-            _ if asked_role(term, role, taken).is_none() => 0,
-            Term::Long => 95,
-            Term::Short => 80,
+        match (term, asked_role(term, role, taken)) {
+            (_, None) => 0,
+            (Term::Long, _) => 95,
+            (Term::Short, _) => 80,
         }
     }
 }

@@ -21,7 +21,7 @@ impl Extent {
     pub(crate) fn new(area: u64, storeys: u64) -> Result<Extent, Refusal>
         ensures { Checked area storeys result }
     {
-        if area < 1 || area > 1_000_000 || storeys < 1 || storeys > 40 {
+        if !(1..=1_000_000).contains(&area) || !(1..=40).contains(&storeys) {
             return Err(Refusal::Reduction);
         }
         Ok(Extent { area, storeys })

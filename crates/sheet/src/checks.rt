@@ -38,9 +38,7 @@ fn reduction_in<E>(kind: Kind, load: &Load<E>) -> bool
     ensures { Decides result (ReductionIn kind load.now.class load.now.area load.now.storeys) }
 {
     match kind {
-        Kind::ShortTerm if load.class > 0 => {
-            reduction::factor(load.class, load.area, load.storeys).is_ok()
-        }
+        Kind::ShortTerm if load.class > 0 => { load.reduction_factor().is_ok() }
         _ => load.class == 0 && load.area == 0 && load.storeys == 0,
     }
 }
@@ -66,6 +64,7 @@ pub(crate) fn place_of<E: Effect>(records: &[Record<E>], number: u64) -> Result<
 }
 
 // The kind of a record that is handed in, or why it is refused whatever its number is beside the others.
+// Kept: `own` beside the entry whose number it may be: an entry leaves no record out of the group rule, and an alteration its own.
 pub(crate) fn checked<E: Effect>(
     records: &[Record<E>],
     own: Option<u64>,

@@ -1,3 +1,4 @@
+// A sheet and its memory.
 ghost use Rattle.std.specs.Prelude.{◌≤◌, vec_len, vec_capacity};
 
 use loads::Record;

@@ -5,6 +5,7 @@ ghost use Rattle.std.specs.Prelude.{◌≡◌, ℕ, List};
 ghost use Rattle.words.specs.Words.{Named, Words};
 
 // An enum of which each case has a word.
+// Kept: not `Display` with `FromStr`: a text comes as bytes, and one law ties both ways, so that each word names one case.
 pub trait Word: Copy {
     // The word of each case, as bytes.
     ghost word_of: { Self → List ℕ };

@@ -12,9 +12,8 @@ use loads::Record;
 use refusals::Refusal;
 
 impl<E: Effect> Sheet<E> {
-    // Kept: memory and places stay two parameters here and where a text or a run opens its sheet: the one is moved into the sheet, the other is a
-    // number that each caller has, and a struct of the two would be made for this call alone.
     // A blank sheet. Its places are the smallest of the number asked for, the capacity of the memory, and 32.
+    // Kept: memory and places are two parameters, here and where one opens a sheet from a text: the memory is moved in, the number is each caller's own.
     pub fn open(memory: Vec<Record<E>>, places: usize) -> Sheet<E>
         ensures blank { held result ≡ [] }
         ensures places { places_of result ≡ min (min places (vec_capacity memory)) 32 }
@@ -39,8 +38,8 @@ impl<E: Effect> Sheet<E> {
         self.records.as_slice()
     }
 
-    // Kept: that a call leaves the number of places is a clause of each: it is said of two moments, and a type or an invariant speaks of one.
     // Adds a record at the end.
+    // Kept: that a call leaves the number of places is a clause of each call: it is said of two moments, and an invariant speaks of one.
     pub fn enter(&mut self, entry: Entry<E>) -> Result<(), Refusal>
         ensures ledger { Performs E.means (places_of self.old) (held self.old) (Enter entry) result (held self.new) }
         ensures places { places_of self.new ≡ places_of self.old }

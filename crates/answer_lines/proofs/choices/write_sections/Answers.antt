@@ -11,7 +11,7 @@ loop-section-init g c = λ z w. w
 pub loop-section-preserved : goal.loop-section-preserved
 loop-section-preserved g c =
     let ls = lines_of c.args.choice.now in
-    onward_more c.loop-section.invariant (at_drop_more (λ ss. sections_text ss ls) c.args.sections.now c.loop-section.section-index Factors c.loop-section-test.true) c.write_section.ensures
+    onward_more c.loop-section.invariant (at_drop_more (λ ss. sections_text ss ls) c.args.sections.now c.loop-section.section-index Factors c.loop-section-test.true) c.write.ensures
 
 pub returns : goal.returns
 returns g c =

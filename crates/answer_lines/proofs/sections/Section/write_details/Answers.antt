@@ -3,7 +3,7 @@ use Rattle.norm.specs.Roles.{role_number}
 use Rattle.lines.specs.Reading.{spaced}
 use Rattle.writing.proofs.Overlays.{then, so}
 use Rattle.answer_lines.specs.Lines.{details}
-use Rattle.answer_lines.proofs.sections.write_details.Goals as goal
+use Rattle.answer_lines.proofs.sections.Section.write_details.Goals as goal
 
 pub returns-in-Factors : goal.returns-in-Factors
 returns-in-Factors g c =
