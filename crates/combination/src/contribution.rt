@@ -19,6 +19,7 @@ fn reduction_of<E>(load: &Load<E>) -> u64
 }
 
 // An effect times a factor and a weight where it is taken, zero where it is not.
+// Kept: an Option of the weight is no plainer: two of its three callers would make it from the same `is_taken()`.
 fn weighted<E: Effect>(effect: E, factor: u64, weight: u64, taken: bool) -> E
     ensures { factor ≤ 200 → weight ≤ 1000000 → E.Effect.means.reach effect ≤ 1000000000 → result ≡ (if taken then E.Effect.means.times (factor * weight) effect else E.Effect.means.nil) }
 {
