@@ -5,7 +5,9 @@ use words::Word;
 
 #[derive(Clone, Copy, PartialEq, Eq, Debug)]
 pub enum EffectName {
+    // N
     N,
+    // NM
     Nm,
 }
 

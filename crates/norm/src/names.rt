@@ -5,7 +5,9 @@ use words::Word;
 
 #[derive(Clone, Copy, PartialEq, Eq, Debug)]
 pub enum NormName {
+    // SP20
     Sp20,
+    // SNIP85
     Snip85,
 }
 
