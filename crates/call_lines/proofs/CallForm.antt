@@ -1,6 +1,6 @@
 -- The line of a call as a name and then its arguments.
 -- Assumes nothing.
-use Rattle.std.proofs.Common.{◌≡◌, ℕ, ◌<◌, false, List, ◌∷◌, ◌++◌, length, Some, None, Option, refl, ap, arith, length-append}
+use Rattle.std.proofs.Common.{◌≡◌, ℕ, ◌<◌, false, List, ◌++◌, length, Some, None, Option, refl, ap, arith, length-append}
 use Rattle.effect.specs.Notations.{Notation, NotationLaws}
 use Rattle.sheet.specs.declared.changes.Change.{Change}
 use Rattle.combination.specs.declared.questions.Question.{Question}

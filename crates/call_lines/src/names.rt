@@ -24,9 +24,8 @@ impl Word for CallName {
     }
 
     fn from_word(text: &[u8]) -> Option<CallName> {
-        match ChangeName::from_word(text) {
-            Some(name) => Some(CallName::Change(name)),
-            None => Question::from_word(text).map(CallName::Ask),
-        }
+        ChangeName::from_word(text)
+            .map(CallName::Change)
+            .or_else(|| Question::from_word(text).map(CallName::Ask))
     }
 }

@@ -37,19 +37,16 @@ fn write_refused(out: &mut Writer, refusal: Refusal)
     out.put(b'\n');
 }
 
-// The answer to a question, under the norm that the question asks.
-fn write_asked<E: Written, M: SpecialNorm>(
-    out: &mut Writer,
-    norm: &M,
-    records: &[Record<E>],
-    question: Question,
-    answer: &Answer<E>,
-)
-    ensures { Writes out.old (answer_text E.Written.writes (asked (both (M.Norm.percentages norm.now) (M.SpecialNorm.special norm.now)) question) question records.now answer.now) out.new }
-{
-    match question {
-        Question::Basic => write_answer(out, question, norm, records, answer),
-        Question::WithSpecial => write_answer(out, question, &InSpecial(norm), records, answer),
+impl<'a, E: Written, M: SpecialNorm> Reply<'a, E, M> {
+    // The answer to a question, under the norm that the question asks.
+    fn write_asked(&self, out: &mut Writer, question: Question, answer: &Answer<E>)
+        ensures { Writes out.old (answer_text E.Written.writes (asked (both (M.Norm.percentages self.now.norm.now) (M.SpecialNorm.special self.now.norm.now)) question) question self.now.records.now answer.now) out.new }
+    {
+        let (norm, records) = (self.norm, self.records);
+        match question {
+            Question::Basic => write_answer(out, question, norm, records, answer),
+            Question::WithSpecial => write_answer(out, question, &InSpecial(norm), records, answer),
+        }
     }
 }
 
@@ -60,7 +57,7 @@ impl<'a, E: Written, M: SpecialNorm> Text for Reply<'a, E, M> {
         match (self.outcome, self.call) {
             (Err(refusal), _) => write_refused(out, refusal),
             (Ok(Some(answer)), Call::Ask(question)) => {
-                write_asked(out, self.norm, self.records, question, &answer)
+                self.write_asked(out, question, &answer)
             }
             _ => write_done(out),
         }

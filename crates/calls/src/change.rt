@@ -15,18 +15,9 @@ pub fn arguments<E: Written>(tokens: &mut Tokens, name: ChangeName) -> Option<Ch
     ensures { Reads (OfName E.Written.writes name) (arguments_end E.Written.writes) Anything tokens.old result tokens.new }
 {
     match name {
-        ChangeName::Enter => {
-            let entry = entry_line::<E>(tokens)?;
-            Some(Change::Enter(entry))
-        }
-        ChangeName::Alter => {
-            let entry = entry_line::<E>(tokens)?;
-            Some(Change::Alter(entry))
-        }
-        ChangeName::Strike => {
-            let number = tokens.last_field()?;
-            Some(Change::Strike(number))
-        }
+        ChangeName::Enter => entry_line::<E>(tokens).map(Change::Enter),
+        ChangeName::Alter => entry_line::<E>(tokens).map(Change::Alter),
+        ChangeName::Strike => Some(Change::Strike(tokens.last_field()?)),
     }
 }
 

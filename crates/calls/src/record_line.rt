@@ -36,7 +36,7 @@ fn show_numbers<W: fmt::Write>(numbers: &[u64], f: &mut fmt::Formatter<W>) -> fm
 fn show_effect<E: Written, W: fmt::Write>(effect: E, f: &mut fmt::Formatter<W>) -> fmt::Result
     ensures { WritesOnOk W.Write.write_str_gives f.old result (spaced signed_decimal (E.Written.writes.numbers effect) []) f.new }
 {
-    // Kept: a value gives its numbers by place, since how many there are is its type's to say and no slice of them stands in memory.
+    // Kept: a value gives its numbers by place, since its type says how many there are, and no slice of them stands in memory.
     for place in 0..E::count() {
         let z = effect.number(place);
         write!(f, " {z}")?;
@@ -54,6 +54,7 @@ impl<E: Written> fmt::Display for RecordLine<E> {
     }
 }
 
+// Kept: `Display` for a program's stream and `Text` for a lent buffer, since `Display` promises nothing where `fmt` gives an error.
 impl<E: Written> Text for RecordLine<E> {
     ghost text = { λ x. record_text E.Written.writes x.0 ++ (10 ∷ []) };
 

@@ -15,8 +15,7 @@ impl fmt::Display for Fault {
     ghost output = { λ x. Some (fault_text x) };
 
     fn fmt<W: fmt::Write>(&self, f: &mut fmt::Formatter<W>) -> fmt::Result {
-        let number = self.refusal.number();
         let line = self.line;
-        write!(f, "REFUSED {number} LINE {line}")
+        write!(f, "{} LINE {line}", self.refusal)
     }
 }

@@ -2,6 +2,7 @@
 ghost use Rattle.std.specs.Prelude.{◌≡◌, ◌<◌, [], ◌∷◌, length};
 ghost use Rattle.lines.specs.Lexing.{Finished, Made, Next, Stepped, rest};
 ghost use Rattle.lines.specs.Lines.{field, gap, lexeme, newlines};
+ghost use Rattle.std.specs.Iterator.{at_most};
 
 use crate::cursor::starts_blank;
 use crate::token::{Place, Token, Tokens};
@@ -69,20 +70,30 @@ impl<'a> Tokens<'a> {
         token(&self.text[start..end], place)
     }
 
-    // The next token, which the cursor goes past; nothing at the end of the text.
-    pub fn next(&mut self) -> Option<Token<'a>>
-        ensures { Next self.old result self.new }
+    // The cursor goes to the end of the text, so that nothing is left.
+    pub fn skip_rest(&mut self)
+        ensures { Finished self.old self.new }
     {
+        while self.next().is_some() {}
+    }
+}
+
+// The next token, which the cursor goes past; nothing at the end of the text.
+impl<'a> Iterator for Tokens<'a> {
+    type Item = Token<'a>;
+
+    ghost next_gives = { Next };
+
+    ghost remaining = { λ s. at_most (length (rest s)) };
+
+    fn next(&mut self) -> Option<Token<'a>> {
         if self.is_at_end() {
             return None;
         }
         Some(self.step())
     }
 
-    // The cursor goes to the end of the text, so that nothing is left.
-    pub fn skip_rest(&mut self)
-        ensures { Finished self.old self.new }
-    {
-        while let Some(_) = self.next() {}
+    fn size_hint(&self) -> (usize, Option<usize>) {
+        (0, None)
     }
 }

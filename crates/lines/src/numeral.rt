@@ -4,6 +4,7 @@ ghost use Rattle.std.proofs.Common.{ap};
 ghost use Rattle.lines.specs.Numeral.{Legible, Spelt, numeral, starts_loosely};
 
 // A type of numbers that stand in fields.
+// Kept: not `FromStr`, which reads a plus and leading zeros and any number of digits.
 pub trait Numeral: Copy {
     // the number that a value is
     ghost value: { Self → ℤ };

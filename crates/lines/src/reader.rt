@@ -19,7 +19,7 @@ impl<'a> Tokens<'a> {
     }
 
     // The text of a field that is not empty, after one blank or right here.
-    // Kept: whether a blank stands first is part of what a grammar asks for; a method for each would say all else twice.
+    // Kept: a bool, as the definition `led` has it: whether a blank stands before a field is the one thing that differs.
     pub fn field_text(&mut self, blank: bool) -> Option<&'a [u8]>
         ensures { MatchOption result (Reads FieldText (led blank itself) Ends self.old None self.new) (λ x. Reads FieldText (led blank itself) Ends self.old (Some x.now) self.new) }
     {

@@ -9,7 +9,7 @@ use crate::token::Tokens;
 impl<'a> Tokens<'a> {
     // As many numbers as `out` has places, each after one blank.
     // What `out` holds where they are not read is left free.
-    // Kept: no heap, and how many numbers there are is known only while running; the form is that of `read_exact`.
+    // Kept: no heap, and how many numbers there are is no const argument; the form is that of `read_exact`.
     pub fn fields_into<N: Numeral>(&mut self, out: &mut [N]) -> Option<()>
         ensures { Reads (Row (Legible N.value) (length out.old)) (spaced (numeral N.value)) (EndsAfter (length out.old)) self.old (filled result out.new) self.new }
     {

@@ -10,6 +10,7 @@ pub struct Place {
 }
 
 // A field is a number where it begins with a digit or a minus, else a word; a word may be empty.
+// Kept: text and place stand in each case, so that one pattern tells the sort of a token and takes its text.
 #[derive(Clone, Copy, Debug)]
 pub enum Token<'a> {
     Word(&'a [u8], Place),
@@ -18,6 +19,7 @@ pub enum Token<'a> {
 }
 
 // A cursor in a text: the bytes before `at` are read, and `line` is the line that it stands in.
+// Kept: the whole text with a place in it, since a token says at which byte it begins, and contracts name what was read.
 #[derive(Drop)]
 pub struct Tokens<'a> {
     pub(crate) text: &'a [u8],

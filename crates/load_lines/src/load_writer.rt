@@ -9,6 +9,7 @@ use loads::Load;
 use writing::{Style, Whole, Writer};
 
 // The numbers before the effect, in their order.
+// Kept: a function, not `From`, since neither `Load` nor the array is a type of this crate; a line is read by the names of the same six fields.
 pub fn numbers_of<E>(load: &Load<E>) -> [u64; 6]
     ensures { result ≡ load_numbers load.now }
 {
@@ -26,7 +27,7 @@ pub fn numbers_of<E>(load: &Load<E>) -> [u64; 6]
 pub fn write_effect<E: Written, S: Style>(out: &mut Writer, effect: E)
     ensures { Writes out.old (spaced S.shown (E.Written.writes.numbers effect) []) out.new }
 {
-    // Kept: a value gives its numbers by place, since how many there are is its type's to say and no slice of them stands in memory.
+    // Kept: a value gives its numbers by place, since its type says how many there are, and no slice of them stands in memory.
     for place in 0..E::count() {
         out.put(b' ');
         S::show(out, effect.number(place));

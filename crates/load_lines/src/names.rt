@@ -14,6 +14,7 @@ pub struct Names {
 }
 
 // The case of an enum whose word stands after one blank, or right here.
+// Kept: `blank` as in `field_text`, whose answer this only looks up.
 pub fn word_field<T: Word>(tokens: &mut Tokens, blank: bool) -> Option<T>
     ensures { Reads Anything (led blank T.word_of) Ends tokens.old result tokens.new }
 {

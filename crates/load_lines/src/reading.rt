@@ -7,6 +7,7 @@ use lines::token::Tokens;
 use loads::Load;
 
 // The numbers of an effect, each after one blank, and the line end.
+// Kept: 4 places, the most that an effect may have to be read, since an array of `E::NUMBERS` can't be written and reading has no heap.
 fn effect_line<E: Written>(tokens: &mut Tokens) -> Option<E>
     ensures { Reads (LegibleEffect E.Written.writes) (effect_end E.Written.writes) Anything tokens.old result tokens.new }
 {

@@ -17,6 +17,7 @@ use std::io;
 use std::io::{BufWriter, Read, Write};
 
 // Makes the calls of the lines that are left, up to the first that is malformed.
+// Kept: a result in a result: an error of the stream ends the program, a fault of the text is printed.
 fn make_calls<E: Written, M: SpecialNorm>(
     out: &mut impl Write,
     tokens: &mut Tokens,
@@ -29,7 +30,7 @@ fn make_calls<E: Written, M: SpecialNorm>(
             let refusal = Refusal::BodyLine;
             return Ok(Err(Fault { refusal, line }));
         };
-        let said = Said::of_outcome(perform(norm, sheet, Call::Change(change)));
+        let said = Said::from(perform(norm, sheet, Call::Change(change)));
         writeln!(out, "{said}")?;
     }
     Ok(Ok(()))
@@ -43,7 +44,7 @@ fn list_records<E: Written>(out: &mut impl Write, records: &[Record<E>]) -> io::
     Ok(())
 }
 
-// The run of a sheet of an effect type under a norm.
+// The run of a sheet of an effect type under a norm. The places are cut by nothing, since `usize` has 64 bits here.
 fn run<E: Written, M: SpecialNorm>(
     rt: &HostRuntime,
     out: &mut impl Write,

@@ -10,10 +10,10 @@ use std::fmt;
 #[derive(Clone, Copy)]
 pub struct Said(pub Result<(), Refusal>);
 
-impl Said {
-    pub fn of_outcome<E: Copy>(outcome: Outcome<E>) -> Said
-        ensures { result.0 ≡ said_of outcome }
-    {
+impl<E: Copy> From<Outcome<E>> for Said {
+    ghost from_gives = { λ outcome said. said.0 ≡ said_of outcome };
+
+    fn from(outcome: Outcome<E>) -> Said {
         Said(outcome.map(|_| ()))
     }
 }

@@ -26,26 +26,23 @@ struct Report<'a, E, M> {
     special: Result<Answer<E>, Refusal>,
 }
 
-// The answer to the special question, or that there is none.
-fn write_special_part<E: Written, M: SpecialNorm>(
-    out: &mut Writer,
-    norm: &M,
-    records: &[Record<E>],
-    special: &Result<Answer<E>, Refusal>,
-)
-    ensures { Writes out.old (special_text E.Written.writes (M.SpecialNorm.special norm.now) records.now special.now) out.new }
-{
-    match special {
-        Ok(answer) => {
-            write_answer(
-                out,
-                Question::WithSpecial,
-                &InSpecial(norm),
-                records,
-                answer,
-            );
+impl<'a, E: Written, M: SpecialNorm> Report<'a, E, M> {
+    // The answer to the special question, or that there is none.
+    fn write_special_part(&self, out: &mut Writer)
+        ensures { Writes out.old (special_text E.Written.writes (M.SpecialNorm.special self.now.norm.now) self.now.records.now self.now.special) out.new }
+    {
+        match &self.special {
+            Ok(answer) => {
+                write_answer(
+                    out,
+                    Question::WithSpecial,
+                    &InSpecial(self.norm),
+                    self.records,
+                    answer,
+                );
+            }
+            Err(_) => out.word(b"SPECIAL NONE\n"),
         }
-        Err(_) => out.word(b"SPECIAL NONE\n"),
     }
 }
 
@@ -55,11 +52,11 @@ impl<'a, E: Written, M: SpecialNorm> Text for Report<'a, E, M> {
     fn write_to(&self, out: &mut Writer) {
         write_names(out, self.names);
         write_answer(out, Question::Basic, self.norm, self.records, &self.basic);
-        write_special_part(out, self.norm, self.records, &self.special);
+        self.write_special_part(out);
     }
 }
 
-// Writes the report of a sheet into `out` and gives its length; a buffer that is too short is refused with 13 and stays as it is.
+// Writes the report of a sheet into `out` and gives its length; a buffer that is too short is refused as `OutputTooLong` and stays as it is.
 pub fn write_report<'a, E: Written, M: SpecialNorm>(
     names: Names,
     norm: &'a M,

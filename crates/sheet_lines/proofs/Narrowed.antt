@@ -1,6 +1,7 @@
 -- A reader that takes only some of the values that another reads.
 -- Assumes nothing.
-use Rattle.std.proofs.Common.{ℕ, List, Some, None, sym, ◌∙◌, subst}
+use Rattle.std.proofs.Common.{◌≡◌, ℕ, Bool, true, false, List, Some, None, Option, MatchBool, MatchOption, sym, ◌∙◌, subst}
+use Rattle.std.specs.Bool.{then_some}
 use Rattle.lines.specs.Lexing.{rest}
 use Rattle.lines.specs.Reading.{Reads}
 use Rattle.lines.specs.declared.token.Tokens.{Tokens}
@@ -19,3 +20,8 @@ module _ {A : Type 0} {k : ℕ} {valid few : A → Type 0} {written : A → List
 
   pub taken : (s u : Tokens) (a : A) → few a → Reads valid written stops s (Some a) u → Reads few written stops s (Some a) u
   taken s u a ok got = (ok, got.1, got.2, got.3)
+
+  pub filtered : (s u : Tokens) (r q : Option A) (Test : A → Bool → Type 0) → ((a : A) (b : Bool) → Test a b → MatchBool b (few a) (few a → ⊥)) → Reads valid written stops s r u → MatchOption r (q ≡ None) (λ a. (b : Bool) × Test a b × (q ≡ then_some b a)) → Reads few written stops s q u
+  filtered s u None q Test says got none = subst (λ x. Reads few written stops s x u) (sym none) (λ b t ok ends e. got.0 b t (within b ok) ends e, got.1)
+  filtered s u (Some a) q Test says got (true, test, is) = subst (λ x. Reads few written stops s x u) (sym is) (taken s u a (says a true test) got)
+  filtered s u (Some a) q Test says got (false, test, is) = subst (λ x. Reads few written stops s x u) (sym is) (not_taken s u a (says a false test) got)

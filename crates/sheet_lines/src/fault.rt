@@ -18,6 +18,7 @@ pub enum Layer {
 }
 
 // A refusal with its line, counted from 1, or 0 where it is of no line, and where it comes from.
+// Kept: line 0 stands for no line, since every fault is printed with a line.
 #[derive(Clone, Copy, Debug, PartialEq)]
 pub struct TextFault {
     pub fault: Fault,

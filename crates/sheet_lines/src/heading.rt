@@ -25,6 +25,7 @@ fn is_letter(text: &[u8], kind: Kind) -> bool
 }
 
 // The letter of a kind, after one blank or right here.
+// Kept: `blank` as in `field_text`.
 fn letter(tokens: &mut Tokens, blank: bool, kind: Kind) -> Option<()>
     ensures { Reads Anything (led blank (kind_text kind)) Ends tokens.old result tokens.new }
 {
@@ -36,14 +37,11 @@ fn letter(tokens: &mut Tokens, blank: bool, kind: Kind) -> Option<()>
 fn few(tokens: &mut Tokens) -> Option<u64>
     ensures { Reads Few (led true decimal) Ends tokens.old result tokens.new }
 {
-    let number = tokens.field()?;
-    if number > 99 {
-        return None;
-    }
-    Some(number)
+    tokens.field().filter(|number| *number <= 99)
 }
 
 // The letter of a kind, after one blank or right here, and its count.
+// Kept: `blank` as in `field_text`.
 fn count(tokens: &mut Tokens, blank: bool, kind: Kind) -> Option<u64>
     ensures { Reads Few (count_text blank kind) Ends tokens.old result tokens.new }
 {

@@ -14,6 +14,7 @@ use sheet::{Entry, Sheet};
 use sheet_lines::{Counts, Layer, TextFault, read_body};
 
 // Enters the body of the next line as a record of this kind.
+// Kept: tokens and sheet are two parameters: the one is lent by who holds the text, the other is what the text makes.
 fn enter_line<E: Written>(
     tokens: &mut Tokens,
     kind: Kind,
@@ -52,6 +53,7 @@ fn enter_kind<E: Written>(
 }
 
 // Enters the bodies, kind after kind. A line after the last of them is a surplus line.
+// Kept: four calls show the order of the kinds, and each count has a field of its own name.
 pub(crate) fn read_bodies<E: Written>(
     tokens: &mut Tokens,
     counts: Counts,

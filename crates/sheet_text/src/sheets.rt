@@ -39,6 +39,6 @@ pub fn read_text<E: Written>(
     ensures { ReadFrom (WholeText E.Effect.means E.Written.writes (places_in places (vec_capacity memory)) text.now) (WholeOf E.Written.writes text.now) (places_in places (vec_capacity memory)) result }
 {
     let mut tokens = Tokens::new(text);
-    let _ = read_heading(&mut tokens, text.len())?;
+    read_heading(&mut tokens, text.len())?;
     read_sheet(&mut tokens, memory, places)
 }

@@ -22,7 +22,7 @@ struct SheetForm<'a, E> {
 impl<'a, E: Written> Text for SheetForm<'a, E> {
     ghost text = { λ x. sheet_text E.Written.writes x.names x.records.now };
 
-    // Kept: four calls show the order of the kinds; a loop over a list of the kinds is no shorter.
+    // Kept: four calls show the order of the kinds; a loop over an array of them names the four as well and is one line shorter.
     fn write_to(&self, out: &mut Writer) {
         let records = self.records;
         write_names(out, self.names);
@@ -34,7 +34,7 @@ impl<'a, E: Written> Text for SheetForm<'a, E> {
     }
 }
 
-// Writes the text of a sheet into `out` and gives its length; a buffer that is too short is refused with 13 and stays as it is.
+// Writes the text of a sheet into `out` and gives its length; a buffer that is too short is refused as `OutputTooLong` and stays as it is.
 pub fn write_sheet<E: Written>(
     names: Names,
     sheet: &Sheet<E>,

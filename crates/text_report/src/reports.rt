@@ -14,6 +14,7 @@ use sheet_lines::{Layer, TextFault};
 use sheet_text::{read_text, text_names};
 
 // The report of a text under a norm, its effects read as the type `E`, written into `out`; its length, or the refusal that is due. After a refusal `out` is as it was.
+// Kept: names and norm are two parameters, since names are printed as they stand in the text, and the norm is a type.
 pub fn report_as<E: Written, M: SpecialNorm>(
     names: Names,
     norm: &M,

@@ -24,6 +24,7 @@ impl Writer<'_> {
     }
 
     // The last eight digits of `n`, leading zeros too.
+    // Kept: digit by digit, since itoa writes no leading zeros and a `Writer` takes no formatter; `Fixed8` shows the same through `fmt`.
     fn decimals(&mut self, n: u64)
         ensures { Writes self.old (padded 8 n) self.new }
     {

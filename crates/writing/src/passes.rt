@@ -23,7 +23,7 @@ fn write_over<T: Text>(text: &T, out: &mut [u8]) -> usize
     writer.at
 }
 
-// Writes the text into `out` from its start and gives its length; a buffer that is too short is refused with 13 and stays as it is.
+// Writes the text into `out` from its start and gives its length; a buffer that is too short is refused as `OutputTooLong` and stays as it is.
 pub fn write_whole<T: Text>(text: &T, out: &mut [u8]) -> Result<usize, Refusal>
     ensures { Fitted (T.Text.text text.now) out.old result out.new }
 {

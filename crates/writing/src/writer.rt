@@ -2,6 +2,8 @@
 ghost use Rattle.std.specs.Prelude.{[], ◌∷◌};
 ghost use Rattle.writing.specs.Writing.{Writes};
 
+// What goes into a lent buffer from its start, as far as that has room.
+// Kept: a buffer with a count beside it, since the count goes on where the buffer ends: a first pass counts over no buffer.
 #[derive(Drop)]
 pub struct Writer<'a> {
     pub(crate) out: &'a mut [u8],
@@ -11,6 +13,7 @@ pub struct Writer<'a> {
 
 impl Writer<'_> {
     // One byte more.
+    // Kept: by index, since of what `get_mut` lends the proof leaves open what the buffer holds afterwards.
     pub fn put(&mut self, b: u8)
         ensures { Writes self.old (b ∷ []) self.new }
     {
