@@ -22,7 +22,7 @@ struct SheetForm<'a, E> {
 impl<'a, E: Written> Text for SheetForm<'a, E> {
     ghost text = { λ x. sheet_text E.Written.writes x.names x.records.now };
 
-    // Kept: four calls show the order of the kinds; a loop over an array of them names the four as well and is one line shorter.
+    // Kept: four calls show the order of the kinds; a loop over an array of the kinds would name all four as well.
     fn write_to(&self, out: &mut Writer) {
         let records = self.records;
         write_names(out, self.names);

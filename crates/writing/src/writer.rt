@@ -13,7 +13,7 @@ pub struct Writer<'a> {
 
 impl Writer<'_> {
     // One byte more.
-    // Kept: by index, since of what `get_mut` lends the proof leaves open what the buffer holds afterwards.
+    // Kept: by index after a test: `if let` with `get_mut` is no plainer and needs an answer by hand.
     pub fn put(&mut self, b: u8)
         ensures { Writes self.old (b ∷ []) self.new }
     {
