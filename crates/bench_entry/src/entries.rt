@@ -47,8 +47,8 @@ fn read(entry: &Entry) -> Option<Record<N>>
     Some(record(kind, entry))
 }
 
-// Kept: the records stand in an array of 32 beside the number of entries, since the search has no heap.
 // The records that entries write, in their order; None where there are more than 32 or one writes none. Records past the last entry mean nothing.
+// Kept: the records stand in an array of 32 beside the number of entries, since the search has no heap.
 pub(crate) fn read_all(entries: &[Entry]) -> Option<[Record<N>; 32]>
     ensures { ReadsAll entries.now result }
 {

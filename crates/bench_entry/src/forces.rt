@@ -27,14 +27,15 @@ fn special<M: SpecialNorm>(norm: &M, entries: &[Entry]) -> Option<Answer<N>>
 }
 
 // The force of an answer; the least number where there is none.
+// Kept: the least number where there is no answer, since C knows no Option.
 fn force(answer: Option<Answer<N>>) -> i64
     ensures { result ≡ force_of answer }
 {
     answer.map_or(i64::MIN, |answer| answer.effect.force)
 }
 
-// Kept: the norm comes as a bool, since these functions are called from C and Rust, which know no norm of ours.
 // The worst effect of a basic combination, under SNIP85 or SP20; the least number where the entries write no records.
+// Kept: the norm comes as a bool, since these functions are called from C and Rust, which know no norm of ours.
 #[unsafe(no_mangle)]
 pub extern "C" fn bench_entry_basic(is_snip85: bool, entries: &[Entry]) -> i64
     ensures { Gives (AnswersBasic (cond is_snip85 snip85 sp20)) entries.now result }

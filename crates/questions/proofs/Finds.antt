@@ -19,7 +19,7 @@ use Rattle.questions.specs.declared.choice.PartChoice.{PartChoice}
 use Rattle.combination.specs.declared.percents.Percents.{Percents}
 use Rattle.questions.specs.declared.known.Known.{Known}
 use Rattle.questions.specs.declared.pair.Parts.{Parts}
-use Rattle.questions.specs.declared.percents.Numbers.{Numbers}
+use Rattle.norm.specs.declared.taken.Taken.{Taken}
 use Rattle.combination.specs.declared.percents.Table.{Table as PercentTable}
 use Rattle.questions.specs.declared.pair.Tables.{Tables}
 use Rattle.questions.proofs.Merges.{merged_same, fixed_same, part_long, part_short, part_special}
@@ -41,7 +41,7 @@ module _ {V : Type 0} {e : Operations V} (laws : Laws e) (q : Question) (rs : Li
   ms : Marks rs Special tables.special.wanted
   ms = marks_of Special tables.special p.special_kind p.special_table
 
-  module _ (g : PercentTable) (by_long : tables.long.percents ≡ Some g.long) (by_short : tables.short.percents ≡ Some g.short) (n : Numbers) where
+  module _ (g : PercentTable) (by_long : tables.long.percents ≡ Some g.long) (by_short : tables.short.percents ≡ Some g.short) (n : Taken) where
     wl : Whole g.long
     wl = (p.long_table.built g.long by_long).whole
 

@@ -23,7 +23,7 @@ use Rattle.combination.specs.declared.percents.Percents.{Percents}
 use Rattle.questions.specs.declared.known.Known.{Known}
 use Rattle.questions.specs.declared.pair.Candidate.{Candidate}
 use Rattle.questions.specs.declared.pair.Parts.{Parts}
-use Rattle.questions.specs.declared.percents.Numbers.{Numbers}
+use Rattle.norm.specs.declared.taken.Taken.{Taken}
 use Rattle.combination.specs.declared.percents.Table.{Table as PercentTable}
 use Rattle.combination.specs.declared.answers.Answer.{Answer}
 use Rattle.combination.specs.Sound.{Sound}
@@ -121,7 +121,7 @@ abbrev pub Since : ℕ → ℕ → ℕ → ℕ → Type 0
 Since nl nt x y = (nl < x) ⊎ ((x ≡ nl) × (nt ≤ y))
 
 -- the best candidate for a pair of numbers, under each norm that grants the percentages
-abbrev pub PairBest : {V : Type 0} → Operations V → Question → List (Record V) → PercentTable → Numbers → Option (Candidate V) → Type 0
+abbrev pub PairBest : {V : Type 0} → Operations V → Question → List (Record V) → PercentTable → Taken → Option (Candidate V) → Type 0
 PairBest e q rs s n o =
     (norm : Percentages) → ((t : Term) (i x y : ℕ) → norm t i x y ≤ 100) → OneKind rs → Agrees n.long s.long (granted norm Long n.long n.short) → Agrees n.short s.short (granted norm Short n.long n.short) → Covers e norm q rs (Just n.long n.short) o
 

@@ -8,6 +8,7 @@ use effect::Effect;
 use norm::Role;
 
 // For each record, in their order, the role in which it is taken, None where it is left out; roles past the last record mean nothing.
+// Kept: a role for each of 32 records, since a choice is copied from row to row and the search has no heap.
 #[derive(Clone, Copy)]
 pub(crate) struct PartChoice {
     pub roles: [Option<Role>; 32],

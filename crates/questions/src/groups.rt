@@ -48,7 +48,7 @@ impl<'a, E: Effect> Wanted<'a, E> {
         ensures carried { Carried (items_of E.means full self.now.loads.now.records.now) self.now.flags.now i done.old done.new }
         ensures bound { (n : ℕ) → TakesAtMost (items_of E.means full self.now.loads.now.records.now) done.old n → TakesAtMost (items_of E.means full self.now.loads.now.records.now) done.new (n + 1) }
     {
-        // Kept: the loop is over the places themselves, since a place is asked for by its number and no record is read here.
+        // Kept: the place is counted, since of `done.iter_mut().enumerate()` the proof leaves open what `done` holds after the loop.
         for j in 0..self.loads.records.len() {
             if self.is_fellow(i, j) {
                 done[j] = true;

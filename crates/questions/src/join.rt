@@ -1,5 +1,6 @@
 // Choices of each kind and the permanent loads, put together.
-ghost use Rattle.std.specs.Prelude.{◌≡◌, length, take};
+ghost use Rattle.std.specs.Prelude.{◌≡◌, length, slice_index_or, take};
+ghost use Rattle.combination.specs.declared.picks.Pick.TheVariants.{Out};
 ghost use Rattle.questions.specs.Engine.{joined};
 ghost use Rattle.questions.specs.Parts.{given as given_pick, placed, taken_as};
 
@@ -9,6 +10,7 @@ use combination::Pick;
 use effect::Effect;
 use loads::Kind;
 use norm::Role;
+use std::array;
 
 fn pick_for(role: Option<Role>) -> Pick
     ensures { result ≡ given_pick role }
@@ -36,19 +38,25 @@ impl<'a, E: Effect> RuledRecord<'a, E> {
     }
 }
 
+impl<'a, E: Effect> WeighedRecords<'a, E> {
+    // The pick of the record at a place; out where there is no record.
+    fn place(&self, parts: &Parts, k: usize) -> Pick
+        ensures { result ≡ slice_index_or (joined E.means self.now.records.now parts.now) k Out }
+    {
+        let Some(record) = self.records.get(k) else {
+            return Pick::Out;
+        };
+        RuledRecord { record }.place(
+            parts.long.roles[k],
+            parts.short.roles[k],
+            parts.special.roles[k],
+        )
+    }
+}
+
 // The picks of three choices and the permanent loads.
 pub(crate) fn join<E: Effect>(loads: &WeighedRecords<E>, parts: &Parts) -> [Pick; 32]
     ensures { take (length loads.now.records.now) result ≡ joined E.means loads.now.records.now parts.now }
 {
-    let mut picks = [Pick::Out; 32];
-    // Kept: the place is counted, since of a zip over `picks.iter_mut()` the proof leaves open what `picks` holds after the loop.
-    for (k, record) in loads.records.iter().enumerate() {
-        let load = RuledRecord { record };
-        picks[k] = load.place(
-            parts.long.roles[k],
-            parts.short.roles[k],
-            parts.special.roles[k],
-        );
-    }
-    picks
+    array::from_fn(|k| loads.place(parts, k))
 }

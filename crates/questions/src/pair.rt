@@ -4,11 +4,11 @@ ghost use Rattle.questions.specs.Engine.{PairBest, Prepared, Room, four, part_to
 
 use crate::choice::PartChoice;
 use crate::known::Known;
-use crate::percents::Numbers;
 use crate::rated::{Rated, WHOLE};
 use crate::worst::Search;
 use combination::Question;
 use effect::Effect;
+use norm::Taken;
 
 // A choice of each kind.
 #[derive(Clone, Copy)]
@@ -54,18 +54,19 @@ fn together<E: Effect>(
 
 impl<'a, E: Effect, M> Search<'a, E, M> {
     // The best candidate among the choices that take these numbers of long-term and short-term loads.
+    // Kept: `granted` and not the two `Rated` of `step`, since of these two more clauses would have to say that they hold the records of the search.
     pub(crate) fn pair(
         &self,
         tables: &Tables<E>,
         granted: combination::Table,
-        numbers: Numbers,
+        taken: Taken,
     ) -> Option<Candidate<E>>
         requires prepared { Prepared E.Effect.means self.now.loads.now.records.now tables.now }
         requires by_long { tables.now.long.percents ≡ Some granted.long }
         requires by_short { tables.now.short.percents ≡ Some granted.short }
-        requires longs { numbers.long ≤ tables.now.long.table.limit }
-        requires shorts { numbers.short ≤ tables.now.short.table.limit }
-        ensures { PairBest E.Effect.means self.now.question self.now.loads.now.records.now granted numbers result }
+        requires longs { taken.long ≤ tables.now.long.table.limit }
+        requires shorts { taken.short ≤ tables.now.short.table.limit }
+        ensures { PairBest E.Effect.means self.now.question self.now.loads.now.records.now granted taken result }
     {
         let by_long = Rated {
             loads: self.loads,
@@ -79,11 +80,9 @@ impl<'a, E: Effect, M> Search<'a, E, M> {
             loads: self.loads,
             percents: WHOLE,
         };
-        let long = tables.long.best(&by_long, numbers.long)?;
-        let short = tables.short.best(&by_short, numbers.short)?;
-        let special = tables
-            .special
-            .best(&whole, self.question.specials() as usize)?;
+        let long = tables.long.best(&by_long, taken.long)?;
+        let short = tables.short.best(&by_short, taken.short)?;
+        let special = tables.special.best(&whole, self.question.specials())?;
         let parts = Parts {
             long,
             short,

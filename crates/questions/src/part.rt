@@ -10,6 +10,7 @@ use effect::Effect;
 use norm::Role;
 
 // The choice with record j added in a role.
+// Kept: `j < 32` is a clause of the three steps that hand on a place; a type for a place would be made for them alone.
 fn with_record(part: Option<PartChoice>, j: usize, role: Role) -> Option<PartChoice>
     requires { j < 32 }
     ensures { result ≡ added j role part }

@@ -9,7 +9,6 @@ use crate::rated::{RuledRecord, WeighedRecords};
 use combination::Pick;
 use effect::Effect;
 use loads::Kind;
-use std::cmp::Ordering;
 
 impl<'a, E: Effect> RuledRecord<'a, E> {
     // A permanent load at the factor of a pick.
@@ -25,9 +24,11 @@ impl<'a, E: Effect> RuledRecord<'a, E> {
         ensures { result ≡ best_factor E.means self.now.record.now }
     {
         let by_lower = self.at_factor(Pick::Lower);
-        match by_lower.compare(self.at_factor(Pick::Upper)) {
-            Ordering::Less | Ordering::Equal => Pick::Upper,
-            Ordering::Greater => Pick::Lower,
+        let by_upper = self.at_factor(Pick::Upper);
+        if by_lower.compare(by_upper).is_gt() {
+            Pick::Lower
+        } else {
+            Pick::Upper
         }
     }
 

@@ -21,6 +21,7 @@ pub(crate) struct RuledRecord<'a, E: Effect> {
 }
 
 // Records that keep the rules, and the weight of each in their order: its upper factor times its reduction factor. Weights past the last record mean nothing.
+// Kept: the weights stand in an array of 32 beside the records, since the records are lent and the search has no heap.
 #[derive(Drop)]
 pub(crate) struct WeighedRecords<'a, E: Effect> {
     pub records: &'a [Record<E>],

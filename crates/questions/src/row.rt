@@ -8,7 +8,7 @@ use crate::rated::Rated;
 use effect::Effect;
 use norm::Role;
 
-// By whether roles 1 and 2 are given; None where no choice is so.
+// By whether the leading and the second role are given; None where no choice is so.
 #[derive(Clone, Copy, Default)]
 pub(crate) struct Row {
     pub neither: Option<PartChoice>,

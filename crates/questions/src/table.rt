@@ -11,6 +11,8 @@ use crate::rated::Rated;
 use crate::row::Row;
 use effect::Effect;
 
+// Kept: 33 rows of which `limit` says the last, since the search has no heap.
+// Kept: that the rows are the best stays a clause: as an invariant it would need the records and percentages in the table too.
 #[derive(Clone, Copy)]
 pub(crate) struct Table {
     // the row at c takes c records
@@ -50,9 +52,9 @@ impl Table {
         ensures groups { self.new.groups ≡ self.old.groups }
         ensures limit { self.new.limit ≡ self.old.limit }
     {
-        let end = self.groups.min(self.limit) + 1;
-        // Kept: a row is read and written beside the row before it in `old`, and its place is the number of records that it takes.
-        for count in 1..end {
+        let last = self.groups.min(self.limit);
+        // Kept: the place is counted, since of a zip over `self.rows[1..=last].iter_mut()` the proof leaves open what `rows` holds after the loop.
+        for count in 1..=last {
             let row = self.rows[count].stepped(&old.rows[count - 1], rated, j);
             self.rows[count] = row;
         }

@@ -18,23 +18,24 @@ fn is_allowed(kind: Kind, f: u64) -> bool
 }
 
 // The reduction factor of a record; None where its rule is broken.
-fn reduction_of<E: Effect>(load: &Record<E>) -> Option<u64>
-    ensures { Reduces load.now result }
+fn reduction_of<E: Effect>(record: &Record<E>) -> Option<u64>
+    ensures { Reduces «record».now result }
 {
-    let f = reduction::factor(load.load.class, load.load.area, load.load.storeys).ok()?;
-    is_allowed(load.kind, f).then_some(f)
+    let load = &record.load;
+    let f = reduction::factor(load.class, load.area, load.storeys).ok()?;
+    is_allowed(record.kind, f).then_some(f)
 }
 
 // The weight of a record; None where a rule is broken.
-fn weight<E: Effect>(load: &Record<E>) -> Option<u64>
-    ensures { Weighs E.means load.now result }
+fn weight<E: Effect>(record: &Record<E>) -> Option<u64>
+    ensures { Weighs E.means «record».now result }
 {
-    let reach = load.load.effect.reach();
-    if reach > 1_000_000_000 || load.load.upper > 200 || load.load.lower > 200 {
+    let load = &record.load;
+    if load.effect.reach() > 1_000_000_000 || load.upper > 200 || load.lower > 200 {
         return None;
     }
-    let f = reduction_of(load)?;
-    Some(load.load.upper * f)
+    let f = reduction_of(record)?;
+    Some(load.upper * f)
 }
 
 // The records with their weights; None where a rule is broken.
@@ -45,9 +46,9 @@ pub(crate) fn weigh<E: Effect>(records: &[Record<E>]) -> Option<WeighedRecords<'
         return None;
     }
     let mut weights = [0; 32];
-    // Kept: the place is counted, since of a zip over `weights.iter_mut()` the proof leaves open what `weights` holds after the loop.
-    for (k, load) in records.iter().enumerate() {
-        weights[k] = weight(load)?;
+    // Kept: the place is counted, since of a zip over `weights.iter_mut()` the proof leaves open what `weights` holds after the loop, and the contract of `array::try_from_fn` doesn't say that its closure reads these records at each call.
+    for (k, record) in records.iter().enumerate() {
+        weights[k] = weight(record)?;
     }
     Some(WeighedRecords { records, weights })
 }

@@ -10,16 +10,16 @@ use crate::groups::Wanted;
 use crate::known::Known;
 use crate::larger::larger_by;
 use crate::pair::{Candidate, Tables};
-use crate::percents::Numbers;
+use crate::percents::percents_for;
 use crate::permanent::permanent_sum;
 use crate::rated::{Rated, WHOLE, WeighedRecords};
 use combination::Question;
 use effect::Effect;
 use loads::Kind;
-use norm::{Norm, Term};
+use norm::{Norm, Taken, Term};
 
-// Kept: `Prepared` stays a clause, since as an invariant of the tables it needs the records beside each of them, and a proof of each part that it has one proof at most.
 // What is known before any number is tried.
+// Kept: `Prepared` stays a clause: as an invariant it would need the records in `Tables` too, beside those of `Search`.
 fn tables_of<E: Effect>(loads: &WeighedRecords<E>) -> Tables<E>
     ensures { Prepared E.means loads.now.records.now result }
 {
@@ -47,7 +47,7 @@ pub(crate) struct Search<'a, E: Effect, M> {
 
 impl<'a, E: Effect, M: Norm> Search<'a, E, M> {
     // The most records of a kind that any choice takes.
-    fn most_of(&self, known: &Known) -> usize
+    fn most_of(&self, known: &Known) -> u64
         ensures bound { TakesAtMost (items_of E.Effect.means full self.now.loads.now.records.now) known.now.wanted result }
         ensures few { result ≤ 32 }
     {
@@ -55,26 +55,27 @@ impl<'a, E: Effect, M: Norm> Search<'a, E, M> {
             loads: self.loads,
             flags: &known.wanted,
         };
-        wanted.group_count()
+        wanted.group_count() as u64
     }
 
     // One pair of numbers more.
+    // Kept: that the numbers are at most 32 stays a clause: a `Taken` may hold any numbers, since a norm answers to each.
     fn step(
         &self,
         tables: &mut Tables<E>,
         best: Option<Candidate<E>>,
-        numbers: Numbers,
+        taken: Taken,
     ) -> Option<Candidate<E>>
         requires prepared { Prepared E.Effect.means self.now.loads.now.records.now tables.old }
-        requires longs { numbers.long ≤ 32 }
-        requires shorts { numbers.short ≤ 32 }
-        requires covers { OneKind self.now.loads.now.records.now → Covers E.Effect.means (M.Norm.percentages self.now.norm.now) self.now.question self.now.loads.now.records.now (Since numbers.long (numbers.short + 1)) best }
+        requires longs { taken.long ≤ 32 }
+        requires shorts { taken.short ≤ 32 }
+        requires covers { OneKind self.now.loads.now.records.now → Covers E.Effect.means (M.Norm.percentages self.now.norm.now) self.now.question self.now.loads.now.records.now (Since taken.long (taken.short + 1)) best }
         ensures prepared { Prepared E.Effect.means self.now.loads.now.records.now tables.new }
-        ensures covers { OneKind self.now.loads.now.records.now → Covers E.Effect.means (M.Norm.percentages self.now.norm.now) self.now.question self.now.loads.now.records.now (Since numbers.long numbers.short) result }
+        ensures covers { OneKind self.now.loads.now.records.now → Covers E.Effect.means (M.Norm.percentages self.now.norm.now) self.now.question self.now.loads.now.records.now (Since taken.long taken.short) result }
     {
         let loads = self.loads;
-        let of_long = numbers.percents_for(self.norm, Term::Long, tables.long.last(loads));
-        let of_short = numbers.percents_for(self.norm, Term::Short, tables.short.last(loads));
+        let of_long = percents_for(self.norm, taken, Term::Long, tables.long.last(loads));
+        let of_short = percents_for(self.norm, taken, Term::Short, tables.short.last(loads));
         let by_long = Rated {
             loads,
             percents: of_long,
@@ -83,13 +84,13 @@ impl<'a, E: Effect, M: Norm> Search<'a, E, M> {
             loads,
             percents: of_short,
         };
-        tables.long.turn_to(&by_long, numbers.long);
-        tables.short.turn_to(&by_short, numbers.short);
+        tables.long.turn_to(&by_long, taken.long);
+        tables.short.turn_to(&by_short, taken.short);
         let granted = combination::Table {
             long: of_long,
             short: of_short,
         };
-        let found = self.pair(tables, granted, numbers);
+        let found = self.pair(tables, granted, taken);
         larger_by(|candidate| candidate.effect, best, found)
     }
 
@@ -98,8 +99,8 @@ impl<'a, E: Effect, M: Norm> Search<'a, E, M> {
         &self,
         tables: &mut Tables<E>,
         before: Option<Candidate<E>>,
-        long: usize,
-        most: usize,
+        long: u64,
+        most: u64,
     ) -> Option<Candidate<E>>
         requires prepared { Prepared E.Effect.means self.now.loads.now.records.now tables.old }
         requires longs { long ≤ 32 }
@@ -110,8 +111,8 @@ impl<'a, E: Effect, M: Norm> Search<'a, E, M> {
         ensures covers { OneKind self.now.loads.now.records.now → Covers E.Effect.means (M.Norm.percentages self.now.norm.now) self.now.question self.now.loads.now.records.now (Since long 0) result }
     {
         let mut best = before;
-        for short in (0..most + 1).rev() {
-            best = self.step(tables, best, Numbers { long, short });
+        for short in (0..=most).rev() {
+            best = self.step(tables, best, Taken { long, short });
         }
         best
     }
@@ -125,7 +126,7 @@ impl<'a, E: Effect, M: Norm> Search<'a, E, M> {
         let longs = self.most_of(&tables.long);
         let shorts = self.most_of(&tables.short);
         let mut best = None;
-        for long in (0..longs + 1).rev() {
+        for long in (0..=longs).rev() {
             best = self.across(&mut tables, best, long, shorts);
         }
         best
