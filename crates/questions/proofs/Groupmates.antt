@@ -7,12 +7,12 @@ use Rattle.questions.specs.Tables.{Kin, Fellow, Closed, Carried}
 use Rattle.questions.specs.Items.{Item}
 
 -- the test for a fellow: the groups are one, other than 0
-pub fellow_by_group : {V : Type 0} (items : List (Item V)) (wanted : List Bool) (i j x y : ℕ) → group_at items i ≡ x → group_at items j ≡ y → (i ≡ j → ⊥) → Marked wanted j → (b : Bool) → Decides b ((x ≡ y) × (x ≡ 0 → ⊥)) → Decides b (Fellow items wanted i j)
+pub fellow_by_group : {V : Type 0} (items : List (Item V)) (wanted : List Bool) (i j x y : ℕ) → group_at items i ≡ x → group_at items j ≡ y → (i ≡ j → ⊥) → Marked wanted j → (b : Bool) → Decides b ((x ≡ 0 → ⊥) × (x ≡ y)) → Decides b (Fellow items wanted i j)
 fellow_by_group items wanted i j x y ei ej ne w b test = (
-  λ t. let s = test.0 t in inr ((ej ∙ sym s.0 ∙ sym ei, λ z. s.1 (sym ei ∙ z)), w),
+  λ t. let s = test.0 t in inr ((ej ∙ sym s.1 ∙ sym ei, λ z. s.0 (sym ei ∙ z)), w),
   λ f. test.1 (⊎_elim
       (λ (e : j ≡ i). absurd (ne (sym e)))
-      (λ (g : Kin items i j × Marked wanted j). (sym ei ∙ sym g.0.0 ∙ ej, λ z. g.0.1 (ei ∙ z)))
+      (λ (g : Kin items i j × Marked wanted j). (λ z. g.0.1 (ei ∙ z), sym ei ∙ sym g.0.0 ∙ ej))
       f),
 )
 

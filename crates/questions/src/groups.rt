@@ -1,5 +1,5 @@
 // The groups of the records that are wanted; a record of group 0 stands alone.
-ghost use Rattle.std.specs.Prelude.{◌≡◌, ℕ, ◌+◌, ◌<◌, ◌≤◌, true, false, length, Decides, ◌≢◌, slice_index_or};
+ghost use Rattle.std.specs.Prelude.{◌≡◌, ℕ, ◌+◌, ◌<◌, ◌≤◌, true, false, length, Decides, slice_index_or};
 ghost use Rattle.combination.specs.declared.percents.Percents.{Percents as PercentsOf};
 ghost use Rattle.questions.specs.Items.{full, items_of};
 ghost use Rattle.questions.specs.PartChoices.{Marked};
@@ -7,13 +7,6 @@ ghost use Rattle.questions.specs.Tables.{Fellow, Closed, Carried, TakesAtMost};
 
 use crate::rated::WeighedRecords;
 use effect::Effect;
-
-// Whether two groups are one, other than 0.
-fn is_shared(a: u64, b: u64) -> bool
-    ensures { Decides result ((a ≡ b) × (a ≢ 0)) }
-{
-    a != 0 && a == b
-}
 
 // Weighed records, and which of them are wanted.
 #[derive(Drop)]
@@ -36,7 +29,7 @@ impl<'a, E: Effect> Wanted<'a, E> {
             return false;
         }
         let records = self.loads.records;
-        is_shared(records[i].load.group, records[j].load.group)
+        records[i].load.shares_group(&records[j].load)
     }
 
     // The wanted records of the group of record i are done too.
@@ -48,7 +41,7 @@ impl<'a, E: Effect> Wanted<'a, E> {
         ensures carried { Carried (items_of E.means full self.now.loads.now.records.now) self.now.flags.now i done.old done.new }
         ensures bound { (n : ℕ) → TakesAtMost (items_of E.means full self.now.loads.now.records.now) done.old n → TakesAtMost (items_of E.means full self.now.loads.now.records.now) done.new (n + 1) }
     {
-        // Kept: the place is counted, since of `done.iter_mut().enumerate()` the proof leaves open what `done` holds after the loop.
+        // Kept: over the places, since `is_fellow` is asked by them; `done.iter_mut().enumerate()` counts them too and goes past the records.
         for j in 0..self.loads.records.len() {
             if self.is_fellow(i, j) {
                 done[j] = true;

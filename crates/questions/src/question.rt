@@ -1,5 +1,5 @@
 // The two questions.
-ghost use Rattle.std.specs.Prelude.{◌≡◌, List, true, false};
+ghost use Rattle.std.specs.Prelude.{List, Decides};
 ghost use Rattle.combination.specs.Choices.{Admissible};
 ghost use Rattle.combination.specs.Worst.{NoSpecial};
 ghost use Rattle.combination.specs.declared.picks.Pick.{Pick as PickOf};
@@ -58,12 +58,11 @@ pub fn basic<E: Effect, M: Norm>(norm: &M, records: &[Record<E>]) -> Answer<E>
     answer(norm, Question::Basic, records)
 }
 
-// Whether there is a special load.
-fn has_special<E: Effect>(records: &[Record<E>]) -> bool
-    ensures none { result ≡ false → NoSpecial records.now }
-    ensures some { result ≡ true → NoSpecial records.now → ⊥ }
+// Whether there is no special load.
+fn has_no_special<E: Effect>(records: &[Record<E>]) -> bool
+    ensures { Decides result (NoSpecial records.now) }
 {
-    records.iter().any(|record| record.kind == Kind::Special)
+    records.iter().all(|record| record.kind != Kind::Special)
 }
 
 // The worst combination with a special load, where there is one.
@@ -78,5 +77,10 @@ fn with_special<E: Effect, M: SpecialNorm>(norm: &M, records: &[Record<E>]) -> A
 pub fn special<E: Effect, M: SpecialNorm>(norm: &M, records: &[Record<E>]) -> Option<Answer<E>>
     ensures { AnswersSpecial E.Effect.means (M.SpecialNorm.special norm.now) records.now result }
 {
-    has_special(records).then(|| with_special(norm, records))
+    // Kept: by `if`, since `then` with a closure is no plainer and needs an answer by hand.
+    if has_no_special(records) {
+        None
+    } else {
+        Some(with_special(norm, records))
+    }
 }

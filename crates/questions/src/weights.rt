@@ -21,8 +21,7 @@ fn is_allowed(kind: Kind, f: u64) -> bool
 fn reduction_of<E: Effect>(record: &Record<E>) -> Option<u64>
     ensures { Reduces «record».now result }
 {
-    let load = &record.load;
-    let f = reduction::factor(load.class, load.area, load.storeys).ok()?;
+    let f = record.load.reduction_factor().ok()?;
     is_allowed(record.kind, f).then_some(f)
 }
 

@@ -10,5 +10,5 @@ returns g c p =
     (group_shown g.E.Effect.means p c.args.self.now.loads.now.records.now c.args.j c.index-records-j.result c.requires.second)
     c.if-i-j.false
     c.if-not-self-j.false
-    c.is_shared.result
-    c.is_shared.ensures
+    c.shares_group.result
+    c.shares_group.ensures
