@@ -14,7 +14,10 @@ fn arguments<E: Written>(tokens: &mut Tokens, name: CallName) -> Option<Call<E>>
     ensures { Reads (OfName E.Written.writes name) (arguments_end E.Written.writes) Anything tokens.old result tokens.new }
 {
     match name {
-        CallName::Change(name) => calls::arguments::<E>(tokens, name).map(Call::Change),
+        CallName::Change(name) => {
+            let change = calls::arguments::<E>(tokens, name)?;
+            Some(Call::Change(change))
+        }
         CallName::Ask(question) => {
             tokens.line_end()?;
             Some(Call::Ask(question))

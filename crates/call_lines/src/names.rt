@@ -24,8 +24,10 @@ impl Word for CallName {
     }
 
     fn from_word(text: &[u8]) -> Option<CallName> {
-        ChangeName::from_word(text)
-            .map(CallName::Change)
-            .or_else(|| Question::from_word(text).map(CallName::Ask))
+        // Kept: by `match`, since `map` and `or_else` are no plainer and need an answer by hand.
+        match ChangeName::from_word(text) {
+            Some(name) => Some(CallName::Change(name)),
+            None => Question::from_word(text).map(CallName::Ask),
+        }
     }
 }

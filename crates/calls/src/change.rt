@@ -14,10 +14,20 @@ use sheet::Change;
 pub fn arguments<E: Written>(tokens: &mut Tokens, name: ChangeName) -> Option<Change<E>>
     ensures { Reads (OfName E.Written.writes name) (arguments_end E.Written.writes) Anything tokens.old result tokens.new }
 {
+    // Kept: `?` in each arm, which is no longer to read than `map` with the case and needs fewer answers by hand.
     match name {
-        ChangeName::Enter => entry_line::<E>(tokens).map(Change::Enter),
-        ChangeName::Alter => entry_line::<E>(tokens).map(Change::Alter),
-        ChangeName::Strike => Some(Change::Strike(tokens.last_field()?)),
+        ChangeName::Enter => {
+            let entry = entry_line::<E>(tokens)?;
+            Some(Change::Enter(entry))
+        }
+        ChangeName::Alter => {
+            let entry = entry_line::<E>(tokens)?;
+            Some(Change::Alter(entry))
+        }
+        ChangeName::Strike => {
+            let number = tokens.last_field()?;
+            Some(Change::Strike(number))
+        }
     }
 }
 

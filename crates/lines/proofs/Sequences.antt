@@ -1,6 +1,6 @@
 -- Readers one after the other make a reader of what they read together.
 -- Assumes nothing.
-use Rattle.std.proofs.Common.{◌≡◌, ℕ, ◌+◌, List, Some, None, Option, IsSomeAnd, MatchOption, sym, refl, ap, ◌∙◌, subst, arith}
+use Rattle.std.proofs.Common.{◌≡◌, ℕ, ◌+◌, List, Some, None, Option, sym, refl, ap, ◌∙◌, subst, arith}
 use Rattle.lines.specs.Lexing.{rest}
 use Rattle.lines.specs.Lines.{newlines}
 use Rattle.lines.specs.Reading.{Anything, Reads, ReadsLine, before, byte}
@@ -82,12 +82,6 @@ module _ {A C : Type 0} {valid₁ : A → Type 0} {written₁ : A → List ℕ �
         none.0 p.0 t p.2 ends (e ∙ wrapped_cut c t ok)),
     none.1,
   )
-
-  -- what was read is wrapped, if anything was
-  pub mapped : (stops : List ℕ → Type 0) (s u : Tokens) (r : Option A) (x : Option C) → Reads valid₁ written₁ stops s r u → MatchOption r (x ≡ None) (λ a. IsSomeAnd x (λ c. c ≡ make a)) → Reads valid written stops s x u
-  mapped stops s u None x none is = subst (λ y. Reads valid written stops s y u) (sym is) (no_part stops s u none)
-  mapped stops s u (Some a) (Some c) got is = subst (λ y. Reads valid written stops s (Some y) u) (sym is) (q.made a got.0, got.1 ∙ sym (q.same a (rest u) got.0), got.2, got.3)
-  mapped stops s u (Some a) None got is = absurd is
 
   pub wrapped_form : {k : ℕ} {stops : List ℕ → Type 0} → Form k valid₁ written₁ stops → Form k valid written stops
   wrapped_form f = record {

@@ -1,18 +1,18 @@
-use Rattle.std.proofs.Common.{sym, subst}
+use Rattle.std.proofs.Common.{None, sym, subst}
 use Rattle.lines.specs.Reading.{Anything, Reads}
-use Rattle.lines.proofs.Sequences.{mapped}
+use Rattle.lines.proofs.Sequences.{no_part}
 use Rattle.calls.specs.Changes.{OfName, arguments_end}
 use Rattle.calls.proofs.ChangeForm.{enter, alter}
 use Rattle.calls.proofs.change.arguments.Goals as goal
 
-pub returns-in-Enter : goal.returns-in-Enter
-returns-in-Enter g c =
+pub returns-in_err-entry-in-Enter : goal.returns-in_err-entry-in-Enter
+returns-in_err-entry-in-Enter g c =
     let w = g.E.Written.writes in
-    subst (λ m. Reads (OfName w m) (arguments_end w) Anything c.args.tokens.now c.map.result c.entry_line.new.tokens) (sym c.in-Enter.is)
-    (mapped (enter w) Anything c.args.tokens.now c.entry_line.new.tokens c.entry_line.result c.map.result c.entry_line.ensures c.map.ensures.cases)
+    rw c.from_residual.ensures (subst (λ m. Reads (OfName w m) (arguments_end w) Anything c.args.tokens.now None c.entry_line.new.tokens) (sym c.in-Enter.is)
+    (no_part (enter w) Anything c.args.tokens.now c.entry_line.new.tokens c.in_err-entry-in-Enter.ensures))
 
-pub returns-in-Alter : goal.returns-in-Alter
-returns-in-Alter g c =
+pub returns-in_err-entry-in-Alter : goal.returns-in_err-entry-in-Alter
+returns-in_err-entry-in-Alter g c =
     let w = g.E.Written.writes in
-    subst (λ m. Reads (OfName w m) (arguments_end w) Anything c.args.tokens.now c.map-in-Alter.result c.entry_line-in-Alter.new.tokens) (sym c.in-Alter.is)
-    (mapped (alter w) Anything c.args.tokens.now c.entry_line-in-Alter.new.tokens c.entry_line-in-Alter.result c.map-in-Alter.result c.entry_line-in-Alter.ensures c.map-in-Alter.ensures.cases)
+    rw c.from_residual-in_err-entry-in-Alter.ensures (subst (λ m. Reads (OfName w m) (arguments_end w) Anything c.args.tokens.now None c.entry_line-in-Alter.new.tokens) (sym c.in-Alter.is)
+    (no_part (alter w) Anything c.args.tokens.now c.entry_line-in-Alter.new.tokens c.in_err-entry-in-Alter.ensures))
