@@ -52,6 +52,7 @@ fn answer<E: Effect, M: Norm>(norm: &M, question: Question, records: &[Record<E>
 }
 
 // The worst basic combination.
+// Kept: norm and records are two parameters: any norm may be asked of any records, and a value of both would be made for the call alone.
 pub fn basic<E: Effect, M: Norm>(norm: &M, records: &[Record<E>]) -> Answer<E>
     ensures { AnswersSound E.Effect.means (M.Norm.percentages norm.now) Basic records.now result }
 {

@@ -17,6 +17,7 @@ use std::io;
 use std::io::{BufWriter, Read, Write};
 
 // Makes the calls of the lines that are left, up to the first that is malformed.
+// Kept: stream, tokens and norm are parameters: the effect type is known only once the first line is read, and a struct of them would be taken apart at once.
 // Kept: a result in a result: an error of the stream ends the program, a fault of the text is printed.
 fn make_calls<E: Written, M: SpecialNorm>(
     out: &mut impl Write,
