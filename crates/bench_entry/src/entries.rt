@@ -6,6 +6,7 @@ use effect::N;
 use loads::{Kind, Load, Record};
 
 // A load: the letter of its kind and its numbers, with a force in newtons as its effect.
+// Kept: a struct of C with the fields of a `Load`, since C has neither the kinds nor the effect types.
 #[derive(Clone, Copy, Default)]
 #[repr(C)]
 pub struct Entry {

@@ -56,9 +56,7 @@ impl<'a, E: Written, M: SpecialNorm> Text for Reply<'a, E, M> {
     fn write_to(&self, out: &mut Writer) {
         match (self.outcome, self.call) {
             (Err(refusal), _) => write_refused(out, refusal),
-            (Ok(Some(answer)), Call::Ask(question)) => {
-                self.write_asked(out, question, &answer)
-            }
+            (Ok(Some(answer)), Call::Ask(question)) => self.write_asked(out, question, &answer),
             _ => write_done(out),
         }
     }

@@ -1,7 +1,6 @@
 // Lines that are read, lines that are not, and a record that is listed.
 use crate::call::read_call;
-use crate::RecordLine;
-use crate::{Header, read_header};
+use crate::{Header, RecordLine, read_header};
 use combination::Question;
 use effect::{EffectName, N, NM};
 use history::Call;

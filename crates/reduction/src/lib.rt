@@ -13,6 +13,7 @@ mod extent;
 mod formula;
 
 // The factor for a class, an area and a number of storeys. Class 0 is not reduced, whatever area and storeys are.
+// Kept: three numbers, since a caller may have any three; class 0 has no area and no storeys to check, so an `Extent` is made here.
 pub fn factor(class: u64, area: u64, storeys: u64) -> Result<u64, Refusal>
     ensures { Answer class area storeys result }
 {
