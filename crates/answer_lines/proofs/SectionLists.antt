@@ -22,16 +22,3 @@ tabled t =
     ∷ InRole ShortTerm Other t.short.other
     ∷ Taken
     ∷ []
-
-pub tabled_is : {E : Type 0} (norm : Percentages) (ls : List (Line E)) (t : Table) → AskedFor norm ls t → tabled t ≡ sections norm (taken LongTerm ls) (taken ShortTerm ls)
-tabled_is norm ls t asked =
-    λ i.
-    Factors
-    ∷ InRole LongTerm Leading (asked.long.leading i)
-    ∷ InRole LongTerm Second (asked.long.second i)
-    ∷ InRole LongTerm Other (asked.long.other i)
-    ∷ InRole ShortTerm Leading (asked.short.leading i)
-    ∷ InRole ShortTerm Second (asked.short.second i)
-    ∷ InRole ShortTerm Other (asked.short.other i)
-    ∷ Taken
-    ∷ []

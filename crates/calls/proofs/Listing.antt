@@ -23,9 +23,6 @@ letter_ascii LongTerm = omega arith
 letter_ascii ShortTerm = omega arith
 letter_ascii Special = omega arith
 
-pub start_is : (n : ℕ) (k : Kind) (l : ℕ) → l ≡ letter_of k → decimal n ++ (32 ∷ encode l) ≡ record_start n k
-start_is n k l e = ap (λ b. decimal n ++ (32 ∷ encode b)) e ∙ ap (λ b. decimal n ++ (32 ∷ b)) (encode_ascii (letter_of k) (letter_ascii k))
-
 module _ {A : Type 0} (written : A → List ℕ) where
   spaced_append : (xs : List A) (s t : List ℕ) → spaced written xs s ++ t ≡ spaced written xs (s ++ t)
   spaced_append [] s t = refl
@@ -54,6 +51,3 @@ module _ {W : Type 0} (took : W → List ℕ → W → Type 0) (f : Formatter W)
 
   pub put_all : {A : Type 0} (written : A → List ℕ) (g : Formatter W) (xs : List A) (i : ℕ) → length xs ≤ i → HasWritten took f (spaced written (take i xs) []) g → HasWritten took f (spaced written xs []) g
   put_all written g xs i all p = has_written_of_eq took f _ _ g (ap (λ l. spaced written l []) (take_all i xs all)) p
-
-  pub put_whole : {E : Type 0} (w : Notation E) (r : Record E) (g h k : Formatter W) → HasWritten took f (record_start r.number r.kind) g → HasWritten took g (spaced decimal (load_numbers r.load) []) h → HasWritten took h (spaced signed_decimal (w.numbers r.load.effect) []) k → HasWritten took f (record_text w r) k
-  put_whole w r g h k p q s = has_written_of_eq took f _ _ k (whole w r) (has_written_append took f _ g _ k p (has_written_append took g _ h _ k q s))
