@@ -59,3 +59,12 @@ factor_only (suc (suc (suc class))) area storeys f g (inr h) p q = omega arith
 
 pub sized_of : (x : Extent) → Sized x.area x.storeys
 sized_of x = record { area_low = x.area_low; area_high = x.area_high; storeys_low = x.storeys_low; storeys_high = x.storeys_high }
+
+-- the base and the smallest k are the factor by the formula, which is at most 10000
+pub reduced_by : (formula : Formula) (area storeys a k : ℕ) → Usable formula → Sized area storeys → a ≡ max area formula.from
+    → Smallest formula.bound (a * storeys) k → Reduced formula area storeys (formula.base + k) × (formula.base + k ≤ 10000)
+reduced_by formula area storeys a k usable sized e s =
+    let at : Smallest formula.bound (max area formula.from * storeys) k = subst (λ (n : ℕ). Smallest formula.bound (n * storeys) k) e s in
+    let few : k ≤ 10000 - formula.base =
+    smallest_bound formula.bound formula.from area storeys (10000 - formula.base) k sized.storeys_low usable.few at in
+    ((k, refl, at), omega (arith, usable.base_low))
