@@ -1,15 +1,32 @@
 -- Texts of digits and the numbers that they write.
-use Rattle.std.proofs.Common.{eq-eqb, ne_eqb, eqb, true, false, ◌||◌, Result, Ok, Err, ◌≢◌, IsUtf8, ◌≡◌, ℕ, zero, suc, ◌<◌, ◌≤◌, List, [], ◌∷◌, length, get_or, None, decimal, sym, refl, ap, ◌∙◌, subst, arith}
+use Rattle.std.proofs.Common.{eq-eqb, ne_eqb, eqb, false, true, ◌||◌, ◌≢◌, ◌≡◌, ℕ, zero, suc, ◌+◌, ◌*◌, ◌^◌, ◌<◌, ◌≤◌, List, [], ◌∷◌, length, get_or, take, Some, None, Option, MatchOption, decimal, sym, refl, ap, ◌∙◌, subst, arith}
 use borrow.Author.Tests.{clash}
-use Rattle.std.specs.Str.Parse.{AllDigits, ParsesUnsigned, digits_value}
-use Rattle.std.specs.Result.{result_ok}
-use Rattle.std.proofs.lemmas.Str.{IsUtf8-from_ascii}
-use Rattle.std.proofs.lemmas.Str.Parse.{IsNumeralModel, digit_from_value, numerals_by_value, parse_plain, tells_digits, digits_value_short}
-use Rattle.std.proofs.lemmas.Fmt.{IsAscii-from_digits, decimal_digit, decimal-digits_value, decimal_nonempty, length-decimal-le, first_decimal, digits_decimal}
+use Rattle.std.specs.Char.{digit_value}
+use Rattle.std.specs.Str.Parse.{AllDigits, digits_value}
+use Rattle.std.proofs.lemmas.Int.Digits.{digits_value_more, digits_more}
+use Rattle.std.proofs.lemmas.List.{length-take-le}
+use Rattle.std.proofs.lemmas.Str.{digit_value_digit}
+use Rattle.std.proofs.lemmas.Str.Parse.{IsNumeralModel, digit_at, digit_from_value, numerals_by_value, tells_digits, digits_value_short}
+use Rattle.std.proofs.lemmas.Fmt.{decimal_digit, decimal-digits_value, decimal_nonempty, length-decimal-le, first_decimal, digits_decimal}
 use Rattle.lines.specs.Numeral.{Short, Spelt, starts_loosely}
 
 own : IsNumeralModel (AllDigits 10) (digits_value 10)
 own = numerals_by_value (AllDigits 10) tells_digits
+
+-- fewer than ten digits
+pub below : (text : List ℕ) (i n : ℕ) → length text ≤ 10 → i < length text → AllDigits 10 (take i text) → n ≡ digits_value 10 (take i text) → n < 10 ^ 9
+below text i n long here ds e =
+    let short : length (take i text) ≤ 9 = omega (arith, length-take-le i text (omega arith)) in
+    omega (arith, e, digits_value_short own (take i text) 9 ds short)
+
+-- one digit more
+pub digit_more : (text : List ℕ) (i n : ℕ) → i < length text → AllDigits 10 (take i text) → n ≡ digits_value 10 (take i text) → digit_value (get_or text i 0) < 10
+    → AllDigits 10 (take (i + 1) text) × (n * 10 + digit_value (get_or text i 0) ≡ digits_value 10 (take (i + 1) text))
+digit_more text i n here ds e digit = (digits_more 10 text i here ds digit, (λ j. e j * 10 + digit_value (get_or text i 0)) ∙ sym (digits_value_more 10 text i here))
+
+-- one byte that is none
+pub no_digit : (text : List ℕ) (i : ℕ) → i < length text → (digit_value (get_or text i 0) < 10 → ⊥) → AllDigits 10 text → ⊥
+no_digit text i here other ds = let d = digit_at text i ds here in other (omega (arith, digit_value_digit (get_or text i 0) d))
 
 -- the text of a number of at most ten digits
 pub short_text : (text : List ℕ) (n : ℕ) → Short n → text ≡ decimal n → (0 < length text) × (length text ≤ 10) × (1 < length text → 48 < get_or text 0 0) × AllDigits 10 text
@@ -54,17 +71,13 @@ one_byte [] some one = absurd (omega arith)
 one_byte (b ∷ []) some one = refl
 one_byte (b ∷ (c ∷ text)) some one = absurd (one (omega arith))
 
--- what `parse` answers of a text of at most ten bytes that does not start so
-pub is_number : {E : Type 0} (text : List ℕ) (r : Result ℕ E) → starts_loosely text ≡ false → length text ≤ 10 → ParsesUnsigned 64 10 text r → Spelt Short decimal text (result_ok r)
-is_number {E} text (Ok n) tight few h =
-    let p = parse_plain own {E = E} 64 text (Ok n) h (loose_plus text tight) in
-    let small = digits_value_short own text 10 p.0.0 few in
-    (omega (arith, p.1), sym (ap decimal p.1 ∙ decimal-digits_value own text p.0.0 p.0.1 (λ zero. one_byte text p.0.1 (λ more. loose_zero text tight more zero)) p.0.2))
-is_number {E} text (Err e) tight few h = λ n short same.
-    let p = parse_plain own {E = E} 64 text (Err e) h (loose_plus text tight) in
-    let ds = (short_text text n short same).3 in
-    p (ds, (short_text text n short same).0, omega (arith, digits_value_short own text 10 ds few))
+-- what is made of the digits of a text of one to ten bytes that does not start so
+pub is_number : (text : List ℕ) (r : Option ℕ) → starts_loosely text ≡ false → 0 < length text → length text ≤ 10
+    → MatchOption r (AllDigits 10 text → ⊥) (λ n. AllDigits 10 text × (n ≡ digits_value 10 text)) → Spelt Short decimal text r
+is_number text (Some n) tight some few h =
+    let small = digits_value_short own text 10 h.0 few in
+    (omega (arith, h.1), sym (ap decimal h.1 ∙ decimal-digits_value own text h.0 some (λ zero. one_byte text some (λ more. loose_zero text tight more zero)) (omega arith)))
+is_number text None tight some few h = λ n short same. h (short_text text n short same).3
 
--- a text that is not UTF-8 writes no number
-pub no_utf8 : (text : List ℕ) → (IsUtf8 text → ⊥) → Spelt Short decimal text None
-no_utf8 text bad = λ n short same. bad (IsUtf8-from_ascii text (IsAscii-from_digits text (short_text text n short same).3))
+pub empty_text : (text : List ℕ) → length text ≡ 0 → Spelt Short decimal text None
+empty_text text none = λ n short same. omega (arith, none, (short_text text n short same).0)

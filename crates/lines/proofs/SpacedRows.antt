@@ -1,6 +1,6 @@
 -- Rows of values that are each written as a field after one blank.
 -- Assumes nothing.
-use Rattle.std.proofs.Common.{◌≡◌, ℕ, ◌+◌, ◌<◌, true, List, [], ◌∷◌, length, take, set, Some, None, sym, refl, ap, ◌∙◌, subst, arith, length-set}
+use Rattle.std.proofs.Common.{◌≡◌, ℕ, ◌+◌, ◌<◌, true, List, [], ◌∷◌, length, take, set, Some, None, Option, ltb, lt-ltb, sym, refl, ap, ◌∙◌, subst, arith, length-set}
 use Rattle.std.proofs.ByRecursion.{All-push}
 use Rattle.std.proofs.lemmas.List.{take_more_set, length-take-le}
 use Rattle.std.specs.List.{AllByRecursion}
@@ -26,6 +26,10 @@ module _ {A : Type 0} {valid : A → Type 0} {written : A → List ℕ} (own : O
     splits = λ xs ms r t vx vm er et e. same_spaced n xs ms r t vx vm er et e;
     lines = λ xs t ok. newlines_spaced own xs t ok.1 ∙ omega arith;
   }
+
+-- a number that is not the first of its line stands after a blank
+pub after_blank : {A : Type 0} (valid : A → Type 0) (written : A → List ℕ) (i : ℕ) (s u : Tokens) (r : Option A) → Reads valid (led (ltb 0 (i + 1)) written) Ends s r u → Reads valid (led true written) Ends s r u
+after_blank valid written i s u r got = subst (λ b. Reads valid (led b written) Ends s r u) (lt-ltb 0 (i + 1) (omega arith)) got
 
 -- i of n values are read into out, from s to u
 pub record SpacedSofar {A : Type 0} (valid : A → Type 0) (written : A → List ℕ) (n i : ℕ) (out : List A) (s u : Tokens) : Type 0 where

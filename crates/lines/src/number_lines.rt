@@ -8,7 +8,7 @@ use crate::fault::Fault;
 use crate::token::Tokens;
 use refusals::Refusal;
 
-// The numbers of each line, `K` in each; a malformed line gives its fault and is the last.
+// The numbers of each line, `K` in each; a malformed line gives its fault and is the last, and what follows it is not looked at.
 #[derive(Drop)]
 pub struct NumberLines<'a, const K: usize> {
     pub(crate) tokens: Tokens<'a>,
@@ -38,7 +38,7 @@ impl<'a, const K: usize> Iterator for NumberLines<'a, K> {
         }
         let line = self.tokens.line();
         let Some(numbers) = self.tokens.numbers::<K>() else {
-            self.tokens.skip_rest();
+            self.tokens = Tokens::new(&[]);
             let refusal = Refusal::BodyLine;
             return Some(Err(Fault { refusal, line }));
         };

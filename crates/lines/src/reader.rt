@@ -34,7 +34,7 @@ impl<'a> Tokens<'a> {
     }
 
     // A number after one blank, or right here.
-    fn number_after<N: Numeral>(&mut self, blank: bool) -> Option<N>
+    pub(crate) fn number_after<N: Numeral>(&mut self, blank: bool) -> Option<N>
         ensures { Reads (Legible N.value) (led blank (numeral N.value)) Ends self.old result self.new }
     {
         let text = self.field_text(blank)?;

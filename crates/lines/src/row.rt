@@ -1,20 +1,27 @@
 // Reading rows and lines of numbers.
-ghost use Rattle.std.specs.Prelude.{length, decimal};
+ghost use Rattle.std.specs.Prelude.{length, decimal, nat_lt};
 ghost use Rattle.lines.specs.Numeral.{Legible, Short, numeral};
-ghost use Rattle.lines.specs.Reading.{EndsAfter, Reads, ReadsLine, Row, fields_of, filled, numbers_line, spaced};
+ghost use Rattle.lines.specs.Reading.{Ends, EndsAfter, Reads, ReadsLine, Row, fields_of, filled, led, numbers_line, spaced};
 
 use crate::numeral::Numeral;
 use crate::token::Tokens;
 
 impl<'a> Tokens<'a> {
+    // The number at place `i` of a line: the first right here, the others each after one blank.
+    fn item<N: Numeral>(&mut self, i: usize) -> Option<N>
+        ensures { Reads (Legible N.value) (led (nat_lt 0 i) (numeral N.value)) Ends self.old result self.new }
+    {
+        self.number_after(i > 0)
+    }
+
     // As many numbers as `out` has places, each after one blank.
     // What `out` holds where they are not read is left free.
     // Kept: no heap, and how many numbers there are is no const argument; the form is that of `read_exact`.
     pub fn fields_into<N: Numeral>(&mut self, out: &mut [N]) -> Option<()>
         ensures { Reads (Row (Legible N.value) (length out.old)) (spaced (numeral N.value)) (EndsAfter (length out.old)) self.old (filled result out.new) self.new }
     {
-        for place in out.iter_mut() {
-            *place = self.field()?;
+        for (i, place) in out.iter_mut().enumerate() {
+            *place = self.item(i + 1)?;
         }
         Some(())
     }
@@ -36,7 +43,7 @@ impl<'a> Tokens<'a> {
         if out.is_empty() {
             return Some(());
         }
-        out[0] = self.number()?;
+        out[0] = self.item(0)?;
         self.fields_into(&mut out[1..])
     }
 

@@ -1,0 +1,7 @@
+use Rattle.std.proofs.Common.{◌≡◌, take}
+use Rattle.std.specs.Str.Parse.{AllDigits, digits_value}
+use Rattle.lines.proofs.numeral.from_digits.Given as goal
+
+-- the bytes before are digits, and n is what they come to
+abbrev pub invariant-loop-b : goal.invariant-loop-b
+invariant-loop-b l = AllDigits 10 (take l.b-index l.text) × (l.n ≡ digits_value 10 (take l.b-index l.text))
