@@ -1,14 +1,15 @@
 -- The best part choice once one record more is done.
-use Rattle.std.proofs.Common.{◌≡◌, ℕ, ◌+◌, ◌-◌, ◌≤◌, Bool, true, List, length, get_or, take, set, Some, None, Option, sym, refl, ap, ◌∙◌, subst, arith, length-set, set-set}
+use Rattle.std.proofs.Common.{◌≡◌, ℕ, ◌+◌, ◌-◌, ◌≤◌, Bool, true, List, map, length, get_or, take, set, Some, None, Option, sym, refl, ap, ◌∙◌, subst, arith, length-set, set-set}
 use lib.Seq.{take-set-lt, set-get_or}
 use Rattle.effect.specs.Laws.{Operations, Laws, limit}
 use Rattle.effect.specs.Laws.{AtMost}
-use Rattle.questions.specs.PartChoices.{From, leads, seconds, worth, comes, reach_sum, Light, chosen}
+use Rattle.questions.specs.PartChoices.{From, leads, seconds, worth, comes, reach_sum, Light, assigned, role_of, roles_of, chosen}
 use Rattle.questions.specs.BestParts.{Opens, Under, Tops, Sound, BestFrom, added}
 use Rattle.questions.specs.declared.choice.PartChoice.{PartChoice}
 use Rattle.questions.specs.Items.{Item}
 use Rattle.norm.specs.declared.roles.Role.{Role}
 use Rattle.effect.proofs.Derived.{plus_at_most_left}
+use Rattle.questions.proofs.Assigned.{roles_set}
 use Rattle.questions.proofs.Sums.{reach_sum_set, reach_comes, comes_set, item_at}
 use Rattle.questions.proofs.Steps.{out_in_old, done_after, from_added, from_skipped, from_struck}
 
@@ -43,12 +44,12 @@ module _ {V : Type 0} {n : Operations V} (laws : Laws n) {items : List (Item V)}
   sound_kept c l s None h = tt
   sound_kept c l s (Some p) h = record { valid = h.valid; within = λ k t. done_after opens k (h.within k t) }
 
-  moved : (r : Option Role) (p : PartChoice) → take (length items) (set p.roles j r) ≡ set (chosen items p) j r
-  moved r p = take-set-lt (length items) p.roles j r opens.here
+  moved : (r : Role) (p : PartChoice) → take (length items) (map role_of (set p.assignments j (assigned r))) ≡ set (chosen items p) j (Some r)
+  moved r p = ap (take (length items)) (roles_set p j r) ∙ take-set-lt (length items) (roles_of p) j (Some r) opens.here
 
   pub sound_added : {c l s : ℕ} (r : Role) → 1 ≤ c → leads (Some r) ≤ l → seconds (Some r) ≤ s → (o : Option PartChoice) → Sound items old (c - 1) (l - leads (Some r)) (s - seconds (Some r)) o → Sound items (set done j true) c l s (added j r o)
   sound_added r hc hl hs None h = tt
-  sound_added {c} {l} {s} r hc hl hs (Some p) h = subst (λ (qs : List (Option Role)). From items (set done j true) c l s qs) (sym (moved (Some r) p)) (from_added opens (Some r) refl hc hl hs h)
+  sound_added {c} {l} {s} r hc hl hs (Some p) h = subst (λ (qs : List (Option Role)). From items (set done j true) c l s qs) (sym (moved r p)) (from_added opens (Some r) refl hc hl hs h)
 
   -- the order of two choices from `old` stays where record j is added to both in one role
   under_added : {c l s : ℕ} {qs ps : List (Option Role)} (r : Option Role) → From items old c l s qs → From items old c l s ps → Under n items qs ps → Under n items (set qs j r) (set ps j r)
@@ -59,7 +60,7 @@ module _ {V : Type 0} {n : Operations V} (laws : Laws n) {items : List (Item V)}
 
   tops_added : (c l s : ℕ) {qs : List (Option Role)} (r : Role) (o : Option PartChoice) → Sound items old c l s o → From items old c l s qs → Tops n items o qs → Tops n items (added j r o) (set qs j (Some r))
   tops_added c l s r None h f t = t
-  tops_added c l s {qs} r (Some p) h f t = subst (Under n items (set qs j (Some r))) (sym (moved (Some r) p)) (under_added (Some r) f h t)
+  tops_added c l s {qs} r (Some p) h f t = subst (Under n items (set qs j (Some r))) (sym (moved r p)) (under_added (Some r) f h t)
 
   -- a choice with record j in role r is topped by the best choice without it, with record j added
   tops_struck : {c l s : ℕ} {qs : List (Option Role)} (r : Role) (o : Option PartChoice) → BestFrom n items old (c - 1) (l - leads (Some r)) (s - seconds (Some r)) o → From items (set done j true) c l s qs → get_or qs j None ≡ Some r → Tops n items (added j r o) qs

@@ -11,7 +11,7 @@ use Rattle.combination.specs.declared.picks.Pick.{Pick}
 use Rattle.combination.specs.declared.questions.Question.{Question}
 use Rattle.questions.specs.Engine.{Marks, Tabled, Prepared, PairBest, Room, four, part_total, joined, fixed_best}
 use Rattle.questions.specs.Items.{full, items_of, Kept, Whole}
-use Rattle.questions.specs.PartChoices.{comes, chosen}
+use Rattle.questions.specs.PartChoices.{comes, chosen, roles_of}
 use Rattle.questions.specs.Parts.{part, best_factor, fixed_sum, merged}
 use Rattle.questions.specs.Tables.{Answers}
 use Rattle.norm.specs.declared.roles.Role.{Role}
@@ -102,13 +102,13 @@ module _ {V : Type 0} {e : Operations V} (laws : Laws e) (q : Question) (rs : Li
           omega arith
 
       -- a role of a record, in the choice and in its part for the records
-      shown_as : (x : Percents) (c : PartChoice) (k : ℕ) → k < length rs → get_or c.roles k None ≡ get_or (chosen (items_of e x rs) c) k None
-      shown_as x c k h = sym (get_or-take (length (items_of e x rs)) c.roles k None (omega (arith, same_length e x rs)))
+      shown_as : (x : Percents) (c : PartChoice) (k : ℕ) → k < length rs → get_or (roles_of c) k None ≡ get_or (chosen (items_of e x rs) c) k None
+      shown_as x c k h = sym (get_or-take (length (items_of e x rs)) (roles_of c) k None (omega (arith, same_length e x rs)))
 
       pub found : (v : V) → v ≡ four e tables.permanent (part_total e rs g.long b.long) (part_total e rs g.short b.short) (part_total e rs full b.special) → PairBest e q rs g n (Some (record { effect = v; parts = b }))
       found v comes_together norm bound one al at =
           let ps : List Pick = merged e rs (λ k. get_or ls k None) (λ k. get_or ts k None) (λ k. get_or ss k None) in
-          let same : joined e rs b ≡ ps = merged_same e rs (λ k. get_or b.long.roles k None) (λ k. get_or b.short.roles k None) (λ k. get_or b.special.roles k None) (λ k. get_or ls k None) (λ k. get_or ts k None) (λ k. get_or ss k None) (shown_as g.long b.long) (shown_as g.short b.short) (shown_as full b.special) in
+          let same : joined e rs b ≡ ps = merged_same e rs (λ k. get_or (roles_of b.long) k None) (λ k. get_or (roles_of b.short) k None) (λ k. get_or (roles_of b.special) k None) (λ k. get_or ls k None) (λ k. get_or ts k None) (λ k. get_or ss k None) (shown_as g.long b.long) (shown_as g.short b.short) (shown_as full b.special) in
           let adm : Admissible q rs ps = admissible laws norm bound q rs kept one n.long n.short g.long g.short al at tables.long.wanted tables.short.wanted tables.special.wanted ml mt ms ls ts ss hl ht hs in
           let fix : fixed_sum e rs ps ≡ tables.permanent = fixed_same e rs (λ k. get_or ls k None) (λ k. get_or ts k None) (λ k. get_or ss k None) ∙ sym p.permanent in
           let rest : V = e.plus (comes e (items_of e g.long rs) ls) (e.plus (comes e (items_of e g.short rs) ts) (comes e (items_of e full rs) ss)) in

@@ -1,4 +1,5 @@
 pub mod Arrays
+pub mod Assigned
 pub mod Sums
 pub mod Steps
 pub mod Bests

@@ -16,6 +16,7 @@ use Rattle.questions.proofs.Readies.{most}
 use Rattle.questions.proofs.Starts.{blank}
 use Rattle.combination.specs.Choices.{is_of_kind}
 use Rattle.questions.specs.Engine.{fixed_best, joined}
+use Rattle.questions.specs.PartChoices.{roles_of}
 use Rattle.questions.specs.Parts.{mask, fixed, best_factor, placed}
 use Rattle.combination.specs.declared.picks.Pick.{Pick}
 use Rattle.combination.specs.declared.picks.Pick.TheVariants as pick
@@ -62,15 +63,15 @@ module _ {V : Type 0} (e : Operations V) (rs : List (Record V)) (p : Parts) wher
     pub size : length picks ≡ 32
     pub below : (k : ℕ) → k < i → get_or picks k pick.Out ≡ get_or (joined e rs p) k pick.Out
 
-  pub joining_more : (picks : List Pick) (i : ℕ) (x : Pick) (r : Record V) → i < length rs → length rs ≤ 32 → r ≡ get_or rs i r → x ≡ placed e r.kind r (get_or p.long.roles i None) (get_or p.short.roles i None) (get_or p.special.roles i None) → Joining picks i → Joining (set picks i x) (i + 1)
+  pub joining_more : (picks : List Pick) (i : ℕ) (x : Pick) (r : Record V) → i < length rs → length rs ≤ 32 → r ≡ get_or rs i r → x ≡ placed e r.kind r (get_or (roles_of p.long) i None) (get_or (roles_of p.short) i None) (get_or (roles_of p.special) i None) → Joining picks i → Joining (set picks i x) (i + 1)
   joining_more picks i x r h few is pe m = record { size = length-set picks i x ∙ m.size; below = below }
     where
       below : (k : ℕ) → k < i + 1 → get_or (set picks i x) k pick.Out ≡ get_or (joined e rs p) k pick.Out
       below k lt = ⊎_elim
           (λ (same : k ≡ i). subst (λ (j : ℕ). get_or (set picks i x) j pick.Out ≡ get_or (joined e rs p) j pick.Out) (sym same)
           (get_or-set_same picks i x pick.Out (omega (arith, m.size)) ∙ pe
-          ∙ ap (λ (y : Record V). placed e y.kind y (get_or p.long.roles i None) (get_or p.short.roles i None) (get_or p.special.roles i None)) is
-          ∙ sym (merged_at e rs (λ j. get_or p.long.roles j None) (λ j. get_or p.short.roles j None) (λ j. get_or p.special.roles j None) i r h)))
+          ∙ ap (λ (y : Record V). placed e y.kind y (get_or (roles_of p.long) i None) (get_or (roles_of p.short) i None) (get_or (roles_of p.special) i None)) is
+          ∙ sym (merged_at e rs (λ j. get_or (roles_of p.long) j None) (λ j. get_or (roles_of p.short) j None) (λ j. get_or (roles_of p.special) j None) i r h)))
           (λ (ne : k ≢ i). get_or-set_other picks i k x pick.Out ne ∙ m.below k (omega arith))
           (cases_eq k i)
 
@@ -78,5 +79,5 @@ module _ {V : Type 0} (e : Operations V) (rs : List (Record V)) (p : Parts) wher
   joining_all picks i few h m =
       let long : length (take (length rs) picks) ≡ length rs = length-take-le (length rs) picks (omega (arith, m.size)) in
       ext_get_or pick.Out (take (length rs) picks) (joined e rs p)
-      (long ∙ sym (length_merged e rs (λ j. get_or p.long.roles j None) (λ j. get_or p.short.roles j None) (λ j. get_or p.special.roles j None)))
+      (long ∙ sym (length_merged e rs (λ j. get_or (roles_of p.long) j None) (λ j. get_or (roles_of p.short) j None) (λ j. get_or (roles_of p.special) j None)))
       (λ k lt. get_or-take (length rs) picks k pick.Out (omega arith) ∙ m.below k (omega arith))

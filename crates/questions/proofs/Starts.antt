@@ -10,6 +10,7 @@ use Rattle.questions.specs.Rows.{RowBest}
 use Rattle.questions.specs.Tables.{TakesAtMost, TableBest, empty_row, first_row, blank_table}
 use Rattle.questions.specs.Items.{Item}
 use Rattle.norm.specs.declared.roles.Role.{Role}
+use Rattle.questions.specs.declared.choice.Assignment.TheVariants.{Out}
 use Rattle.questions.specs.declared.row.Row.{Row}
 use Rattle.effect.proofs.AtMost.{at_most_same}
 use Rattle.effect.proofs.Derived.{nil_plus}
@@ -73,7 +74,7 @@ module _ {V : Type 0} {n : Operations V} (laws : Laws n) (items : List (Item V))
   pub bound_blank : TakesAtMost items (replicate 32 false) 0
   bound_blank c l s ps f = omega (arith, count_out taken refl ps (from_blank f), f.valid.number)
 
-  best_nothing : length items ≤ 32 → BestFrom n items (replicate 32 false) 0 0 0 (Some (record { roles = replicate 32 None }))
+  best_nothing : length items ≤ 32 → BestFrom n items (replicate 32 false) 0 0 0 (Some (record { assignments = replicate 32 Out }))
   unfolding AllOut
   best_nothing few = record {
     sound = record {

@@ -2,7 +2,7 @@
 use Rattle.std.specs.Prelude.{◌≡◌, ℕ, ◌<◌, Bool, false, ◌⊎◌, List, length, Some, None, Option, ◌≢◌, slice_index_or, slice_set}
 use Rattle.effect.specs.Laws.{Operations}
 use Rattle.effect.specs.Laws.{AtMost}
-use Rattle.questions.specs.PartChoices.{From, Marked, comes, group_at, chosen}
+use Rattle.questions.specs.PartChoices.{From, Marked, comes, group_at, assigned, chosen}
 use Rattle.questions.specs.declared.choice.PartChoice.{PartChoice}
 use Rattle.questions.specs.Items.{Item}
 use Rattle.questions.specs.Larger.{NoLess}
@@ -12,7 +12,7 @@ use Rattle.norm.specs.declared.roles.Role.{Role}
 -- record j added in role r
 abbrev pub added : ℕ → Role → Option PartChoice → Option PartChoice
 added j r None = None
-added j r (Some p) = Some (record { roles = slice_set p.roles j (Some r) })
+added j r (Some p) = Some (record { assignments = slice_set p.assignments j (assigned r) })
 
 abbrev pub Sound : {V : Type 0} → List (Item V) → List Bool → ℕ → ℕ → ℕ → Option PartChoice → Type 0
 Sound items done c l s None = Unit {0}

@@ -14,7 +14,7 @@ use Rattle.combination.specs.declared.questions.Question.{Question}
 use Rattle.questions.specs.Items.{full, items_of, Whole}
 use Rattle.questions.specs.Larger.{NoLess}
 use Rattle.questions.specs.Larger.{Tops as Held}
-use Rattle.questions.specs.PartChoices.{Marked, comes, chosen}
+use Rattle.questions.specs.PartChoices.{Marked, comes, chosen, roles_of}
 use Rattle.questions.specs.Parts.{mask, best_factor, fixed_sum, granted, merged, Agrees}
 use Rattle.questions.specs.Promises.{AnswersSound, OneKind}
 use Rattle.questions.specs.Tables.{TableBest}
@@ -75,7 +75,7 @@ Room e fixed l t s = e.reach fixed + e.reach l + e.reach t + e.reach s ≤ limit
 
 -- the picks of three choices and the permanent loads
 abbrev pub joined : {V : Type 0} → Operations V → List (Record V) → Parts → List Pick
-joined e rs p = merged e rs (λ k. get_or p.long.roles k None) (λ k. get_or p.short.roles k None) (λ k. get_or p.special.roles k None)
+joined e rs p = merged e rs (λ k. get_or (roles_of p.long) k None) (λ k. get_or (roles_of p.short) k None) (λ k. get_or (roles_of p.special) k None)
 
 -- the picks of a candidate
 abbrev pub picks_of : {V : Type 0} → Operations V → List (Record V) → Candidate V → List Pick

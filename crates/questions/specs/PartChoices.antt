@@ -3,6 +3,8 @@ use Rattle.std.specs.Prelude.{◌≡◌, ℕ, ◌+◌, ◌-◌, ◌≤◌, min, 
 use Rattle.effect.specs.Laws.{Operations, AtMost, limit}
 use Rattle.effect.specs.Sums.{total, reaches}
 use Rattle.questions.specs.Items.{Item}
+use Rattle.questions.specs.declared.choice.Assignment.{Assignment}
+use Rattle.questions.specs.declared.choice.Assignment.TheVariants as assignment
 use Rattle.questions.specs.declared.choice.PartChoice.{PartChoice}
 use Rattle.norm.specs.declared.roles.Role.{Role}
 use Rattle.norm.specs.declared.roles.Role.TheVariants.{Leading, Second, Other}
@@ -56,9 +58,26 @@ pub record From {V : Type 0} (items : List (Item V)) (flags : List Bool) (c l s 
   pub valid : Valid items c l s ps
   pub within : (k : ℕ) → taken (slice_index_or ps k None) ≡ 1 → Marked flags k
 
+-- the role in which a record is taken, None where it is left out
+abbrev pub role_of : Assignment → Option Role
+role_of assignment.Out = None
+role_of assignment.Leading = Some Leading
+role_of assignment.Second = Some Second
+role_of assignment.Other = Some Other
+
+-- taken in this role
+abbrev pub assigned : Role → Assignment
+assigned Leading = assignment.Leading
+assigned Second = assignment.Second
+assigned Other = assignment.Other
+
+-- the role at each of the 32 places
+abbrev pub roles_of : PartChoice → List (Option Role)
+roles_of p = map role_of p.assignments
+
 -- the roles of the records
 abbrev pub chosen : {V : Type 0} → List (Item V) → PartChoice → List (Option Role)
-chosen items p = take (length items) p.roles
+chosen items p = take (length items) (roles_of p)
 
 -- a choice that takes n of the wanted records: one in role 1 where any is taken, one in role 2 where two or more are
 abbrev pub Admissible : {V : Type 0} → List (Item V) → List Bool → ℕ → List (Option Role) → Type 0

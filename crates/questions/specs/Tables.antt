@@ -3,6 +3,7 @@ use Rattle.std.specs.Prelude.{◌≡◌, ℕ, ◌<◌, ◌≤◌, Bool, false, �
 use Rattle.effect.specs.Laws.{Operations}
 use Rattle.questions.specs.PartChoices.{From, group_at, Marked, chosen, Admissible, Best}
 use Rattle.questions.specs.Rows.{RowBest}
+use Rattle.questions.specs.declared.choice.Assignment.TheVariants.{Out}
 use Rattle.questions.specs.declared.choice.PartChoice.{PartChoice}
 use Rattle.questions.specs.Items.{Item}
 use Rattle.norm.specs.declared.roles.Role.{Role}
@@ -50,7 +51,7 @@ abbrev pub empty_row : Row
 empty_row = record { neither = None; leading = None; second = None; both = None }
 
 abbrev pub first_row : Row
-first_row = record { neither = Some (record { roles = replicate 32 None }); leading = None; second = None; both = None }
+first_row = record { neither = Some (record { assignments = replicate 32 Out }); leading = None; second = None; both = None }
 
 abbrev pub blank_table : ℕ → Table
 blank_table limit = record { rows = first_row ∷ replicate 32 empty_row; done = replicate 32 false; groups = 0; limit = limit }

@@ -1,17 +1,52 @@
 // What can be chosen among records of one kind, and what a choice comes to.
 ghost use Rattle.std.specs.Prelude.{◌≡◌, ◌≤◌};
-ghost use Rattle.questions.specs.PartChoices.{worth, comes, chosen};
+ghost use Rattle.questions.specs.PartChoices.{assigned, chosen, comes, role_of, worth};
 ghost use Rattle.questions.specs.Items.{share, item_of, items_of, weight_of};
 
 use crate::rated::{Rated, RuledRecord};
 use effect::Effect;
 use norm::Role;
 
-// For each record, in their order, the role in which it is taken, None where it is left out; roles past the last record mean nothing.
-// Kept: a role for each of 32 records, since a choice is copied from row to row and the search has no heap.
+// Whether a record is taken, and in which role.
+// Kept: one enum in place of `Option<Role>`, since it takes one byte and that takes two, and choices are copied from row to row.
+#[derive(Clone, Copy)]
+pub(crate) enum Assignment {
+    Out,
+    Leading,
+    Second,
+    Other,
+}
+
+impl Assignment {
+    // Taken in a role.
+    pub(crate) fn of(role: Role) -> Assignment
+        ensures { result ≡ assigned role }
+    {
+        match role {
+            Role::Leading => Assignment::Leading,
+            Role::Second => Assignment::Second,
+            Role::Other => Assignment::Other,
+        }
+    }
+
+    // The role in which the record is taken, None where it is left out.
+    pub(crate) fn role(self) -> Option<Role>
+        ensures { result ≡ role_of self }
+    {
+        match self {
+            Assignment::Out => None,
+            Assignment::Leading => Some(Role::Leading),
+            Assignment::Second => Some(Role::Second),
+            Assignment::Other => Some(Role::Other),
+        }
+    }
+}
+
+// An assignment for each record, in their order; those past the last record mean nothing.
+// Kept: one for each of 32 records, since a choice is copied from row to row and the search has no heap.
 #[derive(Clone, Copy)]
 pub(crate) struct PartChoice {
-    pub roles: [Option<Role>; 32],
+    pub assignments: [Assignment; 32],
 }
 
 impl<'a, E: Effect> RuledRecord<'a, E> {
@@ -45,9 +80,9 @@ impl<'a, E: Effect> Rated<'a, E> {
     {
         let mut sum = E::zero();
         let weighed = self.loads.records.iter().zip(&self.loads.weights);
-        for ((record, weight), role) in weighed.zip(&choice.roles) {
+        for ((record, weight), assignment) in weighed.zip(&choice.assignments) {
             let load = RuledRecord { record };
-            let part = self.contribution(&load, *weight, *role);
+            let part = self.contribution(&load, *weight, assignment.role());
             sum = sum.sum(part);
         }
         sum

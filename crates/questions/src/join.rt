@@ -47,9 +47,9 @@ impl<'a, E: Effect> WeighedRecords<'a, E> {
             return Pick::Out;
         };
         RuledRecord { record }.place(
-            parts.long.roles[k],
-            parts.short.roles[k],
-            parts.special.roles[k],
+            parts.long.assignments[k].role(),
+            parts.short.assignments[k].role(),
+            parts.special.assignments[k].role(),
         )
     }
 }

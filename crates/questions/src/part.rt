@@ -3,7 +3,7 @@ ghost use Rattle.std.specs.Prelude.{◌≡◌, ◌<◌};
 ghost use Rattle.questions.specs.BestParts.{added, Better};
 ghost use Rattle.questions.specs.Items.{items_of};
 
-use crate::choice::PartChoice;
+use crate::choice::{Assignment, PartChoice};
 use crate::larger::larger_by;
 use crate::rated::Rated;
 use effect::Effect;
@@ -16,7 +16,7 @@ fn with_record(part: Option<PartChoice>, j: usize, role: Role) -> Option<PartCho
     ensures { result ≡ added j role part }
 {
     let mut choice = part?;
-    choice.roles[j] = Some(role);
+    choice.assignments[j] = Assignment::of(role);
     Some(choice)
 }
 

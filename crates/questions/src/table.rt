@@ -5,7 +5,7 @@ ghost use Rattle.questions.specs.Items.{items_of};
 ghost use Rattle.questions.specs.PartChoices.{Marked};
 ghost use Rattle.questions.specs.Tables.{TableBest, Closed, Carried, blank_table};
 
-use crate::choice::PartChoice;
+use crate::choice::{Assignment, PartChoice};
 use crate::groups::Wanted;
 use crate::rated::Rated;
 use crate::row::Row;
@@ -31,7 +31,9 @@ impl Table {
         ensures { result ≡ blank_table limit }
     {
         let mut rows = [Row::default(); 33];
-        rows[0].neither = Some(PartChoice { roles: [None; 32] });
+        rows[0].neither = Some(PartChoice {
+            assignments: [Assignment::Out; 32],
+        });
         Table {
             rows,
             done: [false; 32],
