@@ -1,7 +1,7 @@
 // The loads of a column: what is set for each storey, and the load that comes down to a section.
 #![tactic(auto)]
 
-ghost use Rattle.std.specs.Prelude.{◌≡◌, None, replicate};
+ghost use Rattle.std.specs.Prelude.{◌≡◌, ◌+◌, ◌<◌, None, Some, replicate, slice_set, take};
 ghost use Rattle.column.specs.Answer.{SetAnswer, SectionAnswer, Lowest, Place};
 ghost use Rattle.column.specs.Loads.{EachInRange};
 
@@ -41,6 +41,14 @@ impl Column {
         }
     }
 
+    // Puts a storey into a place.
+    fn put(&mut self, place: usize, storey: Storey)
+        requires { place < 40 }
+        ensures { self.new.storeys ≡ slice_set self.old.storeys place (Some storey) }
+    {
+        self.storeys[place] = Some(storey);
+    }
+
     // Sets a storey, 1 at the top, or changes one that is set. A value outside its range is refused, and then nothing changes.
     // Kept: class, area and load are three parameters here alone, since `Storey::new` makes one value of them at once.
     pub fn set(&mut self, storey: u64, class: u64, area: u64, load: u64) -> Result<(), Refusal>
@@ -48,8 +56,16 @@ impl Column {
     {
         let place = place_of(storey)?;
         let storey = Storey::new(class, area, load)?;
-        self.storeys[place] = Some(storey);
+        self.put(place, storey);
         Ok(())
+    }
+
+    // The storeys down to a place.
+    fn down_to(&self, place: usize) -> &[Option<Storey>]
+        requires { place < 40 }
+        ensures { result.now ≡ take (place + 1) self.now.storeys }
+    {
+        &self.storeys[..=place]
     }
 
     // The full and the reduced load on the section below a storey, in units of 0.00000001 N.
@@ -59,7 +75,7 @@ impl Column {
         ensures ranges { EachInRange self.now.storeys }
     {
         let last = place_of(storey)?;
-        Ok(section_loads(&self.storeys[..=last]))
+        Ok(section_loads(self.down_to(last)))
     }
 
     // The number of the lowest storey that is set, or 0 where none is.

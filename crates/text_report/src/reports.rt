@@ -2,16 +2,24 @@
 ghost use Rattle.std.specs.Prelude.{◌≡◌, vec_capacity};
 ghost use Rattle.history.specs.History.{both};
 ghost use Rattle.sheet_text.specs.Texts.{places_in};
-ghost use Rattle.text_report.specs.TextReports.{FromAnyText, FromText, OfEffect};
+ghost use Rattle.text_report.specs.TextReports.{FromAnyText, FromText, OfEffect, written_of};
 
 use crate::memory::Memory;
 use effect::{EffectName, N, NM, Written};
 use load_lines::Names;
 use loads::Record;
 use norm::{Norm, NormName, Snip85, Sp20, SpecialNorm};
+use refusals::Refusal;
 use report::write_report;
 use sheet_lines::{Layer, TextFault};
 use sheet_text::{read_text, text_names};
+
+// What writing came to, as what a text comes to: a refusal is of no line.
+fn written(answer: Result<usize, Refusal>) -> Result<usize, TextFault>
+    ensures { result ≡ written_of answer }
+{
+    Layer::Writing.in_line(answer, 0)
+}
 
 // The report of a text under a norm, its effects read as the type `E`, written into `out`; its length, or the refusal that is due. After a refusal `out` is as it was.
 // Kept: names and norm are two parameters, since names are printed as they stand in the text, and the norm is a type.
@@ -26,7 +34,7 @@ pub fn report_as<E: Written, M: SpecialNorm>(
     ensures { FromText E.Effect.means E.Written.writes names (both (M.Norm.percentages norm.now) (M.SpecialNorm.special norm.now)) (places_in places (vec_capacity memory)) text.now out.old result out.new }
 {
     let sheet = read_text::<E>(text, memory, places)?;
-    Layer::Writing.in_line(write_report(names, norm, &sheet, out), 0)
+    written(write_report(names, norm, &sheet, out))
 }
 
 // The same for the effect type that the text names.

@@ -23,4 +23,4 @@ returns g c =
     let b = held c.in_ok-sheet.sheet in
     let small : p ≤ 32 = omega arith in
     let shown = subst (λ q. Reported g.E.Effect.means g.E.Written.writes c.args.names (both basic special) q b c.args.out.now c.write_report.result c.write_report.new.out) read.places c.write_report.ensures in
-    report_from g.E.Effect.means g.E.Written.writes c.args.names basic special p small c.args.text.now b read.due c.args.out.now c.write_report.result c.write_report.new.out shown c.in_line.result c.in_line.ensures
+    report_from g.E.Effect.means g.E.Written.writes c.args.names basic special p small c.args.text.now b read.due c.args.out.now c.write_report.result c.write_report.new.out shown c.written.result c.written.ensures
