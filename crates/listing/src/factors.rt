@@ -35,8 +35,8 @@ impl fmt::Display for NoFactor {
 
     fn fmt<W: fmt::Write>(&self, f: &mut fmt::Formatter<W>) -> fmt::Result {
         match self {
-            NoFactor::Refused(refusal) => write!(f, "{refusal}"),
-            NoFactor::Malformed(fault) => write!(f, "{fault}"),
+            NoFactor::Refused(refusal) => refusal.fmt(f),
+            NoFactor::Malformed(fault) => fault.fmt(f),
         }
     }
 }
@@ -66,7 +66,7 @@ impl fmt::Display for Reply {
     fn fmt<W: fmt::Write>(&self, f: &mut fmt::Formatter<W>) -> fmt::Result {
         match self.0 {
             Ok(factor) => write!(f, "{factor}"),
-            Err(none) => write!(f, "{none}"),
+            Err(none) => none.fmt(f),
         }
     }
 }
